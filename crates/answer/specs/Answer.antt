@@ -1,0 +1,49 @@
+-- The numbers a call may answer (01, "Numbers a call may answer"), and how a call picks one.
+use mathlib.Core.Bool.{Bool, true, false}
+use mathlib.Core.List.{List, [], _∷_}
+use Prim.Native.Nat.{ℕ, zero, suc}
+
+abbrev pub done : ℕ
+done = 0
+
+abbrev pub shape : ℕ
+shape = 1
+
+abbrev pub room : ℕ
+room = 2
+
+abbrev pub size : ℕ
+size = 3
+
+abbrev pub protocol : ℕ
+protocol = 4
+
+abbrev pub flags : ℕ
+flags = 5
+
+abbrev pub repeat : ℕ
+repeat = 6
+
+abbrev pub notRecord : ℕ
+notRecord = 7
+
+abbrev pub strength : ℕ
+strength = 8
+
+abbrev pub domain : ℕ
+domain = 9
+
+-- the first where the test holds, else the second
+abbrev pub pick : {A : Type 0} → Bool → A → A → A
+pick true a b = a
+pick false a b = b
+
+-- "Each call gives the first that applies": rows of a number and whether it applies, in the paper's order; 0 where none does
+abbrev pub firstOf : List (ℕ × Bool) → ℕ
+firstOf [] = done
+firstOf (row ∷ rows) = pick (row .1) (row .0) (firstOf rows)
+
+-- what an answer holds: the result where its number is 0, and otherwise what a refusal has there
+abbrev pub onDone : {A : Type 0} → ℕ → A → A → A
+onDone zero result refused = result
+onDone (suc n) result refused = refused
