@@ -1,7 +1,11 @@
--- Octets: numbers as octets, and results written into a lent buffer.
-use mathlib.Core.List.{List, [], _∷_, _++_}
+-- Octets: numbers as octets in either order, and results written into a lent buffer.
+use mathlib.Core.List.{List, [], _∷_, _++_, reverse}
 use Prim.Native.Nat.{ℕ, zero, suc, _+_, _*_, _/_, _%_, _^_}
-use lib.ListN.{length, take, drop, getD}
+use lib.ListN.{length, drop, getD}
+use lib.Dec.{leb}
+use Rattle.answer.specs.Answer.{pick}
+use Rattle.octets.specs.declared.Order.{Order}
+use Rattle.octets.specs.declared.Order.the-variants.{HighestFirst, LowestFirst}
 
 -- n as k octets, highest first
 abbrev pub bigEndian : ℕ → ℕ → List ℕ
@@ -10,8 +14,17 @@ bigEndian (suc k) n = n / 256 ^ k % 256 ∷ bigEndian k n
 
 -- n as k octets, lowest first
 abbrev pub littleEndian : ℕ → ℕ → List ℕ
-littleEndian zero n = []
-littleEndian (suc k) n = n % 256 ∷ littleEndian k (n / 256)
+littleEndian k n = reverse (bigEndian k n)
+
+-- n as k octets in the order named
+abbrev pub octetsOf : Order → ℕ → ℕ → List ℕ
+octetsOf HighestFirst k n = bigEndian k n
+octetsOf LowestFirst k n = littleEndian k n
+
+-- words of 32 bits, one behind the other, as octets
+abbrev pub wordsOf : Order → List ℕ → List ℕ
+wordsOf order [] = []
+wordsOf order (w ∷ ws) = octetsOf order 4 w ++ wordsOf order ws
 
 -- the word of 32 bits whose octets are those at i to i + 3, highest first
 abbrev pub wordBE : List ℕ → ℕ → ℕ
@@ -24,3 +37,7 @@ wordLE b i = getD b (i + 3) 0 * 2 ^ 24 + getD b (i + 2) 0 * 2 ^ 16 + getD b (i +
 -- a lent buffer with a result in front, and the rest as it was
 abbrev pub written : List ℕ → List ℕ → List ℕ
 written result buffer = result ++ drop (length result) buffer
+
+-- the same where the result has room, and otherwise the buffer as it was
+abbrev pub writtenIfRoom : List ℕ → List ℕ → List ℕ
+writtenIfRoom result buffer = pick (leb (length result) (length buffer)) (written result buffer) buffer

@@ -1,5 +1,4 @@
--- Words of 32 bits, as RFC 1320, section 2, and FIPS 180-4, sections 2.2.2 and 3.2, have them.
-use mathlib.Core.Bool.{Bool, true, false}
+-- Words of 32 bits (RFC 1320, section 2; FIPS 180-4, sections 2.2.2 and 3.2).
 use Prim.Native.Nat.{ℕ, _+_, _*_, _-_, _/_, _%_, _^_}
 use lib.Bits.{bitOr}
 
@@ -12,10 +11,10 @@ x ⊞ y = (x + y) % 2 ^ 32
 abbrev pub complement : ℕ → ℕ
 complement x = 2 ^ 32 - 1 - x
 
--- x turned left, 0 < n < 32
+-- x turned left by n places, n below 32
 abbrev pub rotl : ℕ → ℕ → ℕ
 rotl n x = bitOr (x * 2 ^ n % 2 ^ 32) (x / 2 ^ (32 - n))
 
--- x turned right, 0 < n < 32
+-- x turned right by n places, n below 32
 abbrev pub rotr : ℕ → ℕ → ℕ
 rotr n x = bitOr (x / 2 ^ n) (x * 2 ^ (32 - n) % 2 ^ 32)

@@ -1,16 +1,44 @@
-// Octets and words of 32 bits: sums and turns of words, words from octets and back, copying.
+// Words of 32 bits and octets: sums and turns of words, words as octets and back, copying.
 ghost use mathlib.Core.Path.{_≡_};
-ghost use mathlib.Core.List.{List, _∷_, []};
-ghost use Prim.Native.Nat.{_+_, _*_, _^_, _<_};
-ghost use lib.ListN.{length, take};
-ghost use Rattle.octets.specs.Octets.{bigEndian, littleEndian, written};
-ghost use Rattle.octets.specs.Words.{_⊞_, rotl, rotr};
+ghost use mathlib.Core.List.{_++_};
+ghost use Prim.Native.Nat.{_+_, _*_, _%_, _^_, _≤_, min};
+ghost use lib.ListN.{length, take, drop};
+ghost use Rattle.octets.specs.Octets.{octetsOf, wordsOf, written, writtenIfRoom};
+ghost use Rattle.octets.specs.Words.{_⊞_, rotl as turnedLeft, rotr as turnedRight};
+
+// Which octet of a number stands in front.
+pub enum Order {
+    HighestFirst,
+    LowestFirst,
+}
 
 // The sum of two words, without the carry out of the top.
 pub fn add(x: u32, y: u32) -> u32
     ensures { λ r. ⌜ r ≡ x ⊞ y ⌝ }
 {
     std::num::wrapping_add_u32(x, y)
+}
+
+// A word turned left.
+pub fn rotl(x: u32, n: u32) -> u32
+    ensures { λ r. ⌜ r ≡ turnedLeft (n % 32) x ⌝ }
+{
+    let k = n % 32;
+    if k == 0 {
+        return x;
+    }
+    (x << k) | (x >> (32 - k))
+}
+
+// A word turned right.
+pub fn rotr(x: u32, n: u32) -> u32
+    ensures { λ r. ⌜ r ≡ turnedRight (n % 32) x ⌝ }
+{
+    let k = n % 32;
+    if k == 0 {
+        return x;
+    }
+    (x >> k) | (x << (32 - k))
 }
 
 // The word of four octets, the highest first.
@@ -20,9 +48,83 @@ pub fn word(a: u8, b: u8, c: u8, d: u8) -> u32
     wide(a) * 16777216 + wide(b) * 65536 + wide(c) * 256 + wide(d)
 }
 
+// A number of 64 bits as eight octets.
+pub fn long_octets(order: Order, x: u64) -> [u8; 8]
+    ensures { λ r. ⌜ r ≡ octetsOf order 8 x ⌝ }
+{
+    let low = (x % 4294967296) as u32;
+    let high = (x / 4294967296) as u32;
+    let mut out = [0u8; 8];
+    match order {
+        Order::HighestFirst => {
+            put_words(order, &[high, low], &mut out);
+        }
+        Order::LowestFirst => {
+            put_words(order, &[low, high], &mut out);
+        }
+    }
+    out
+}
+
+// Writes words as octets into the front of a buffer that has room for them all; otherwise nothing.
+pub fn put_words(order: Order, words: &[u32], out: &mut [u8])
+    ensures { λ _. ⌜ now (out .exit) ≡ writtenIfRoom (wordsOf order (now (words .entry))) (now (out .entry)) ⌝ }
+{
+    if out.len() / 4 < words.len() {
+        return;
+    }
+    let mut i = 0;
+    while i < words.len() {
+        let octets = word_octets(order, words[i]);
+        put_four(octets, 4 * i, out);
+        i += 1;
+    }
+}
+
+// Copies octets into the front of a buffer, as many as it has room for.
+pub fn copy(from: &[u8], to: &mut [u8])
+    ensures { λ _. ⌜ now (to .exit) ≡ written (take (length (now (to .entry))) (now (from .entry))) (now (to .entry)) ⌝ }
+{
+    let n = least(from.len(), to.len());
+    let mut i = 0;
+    while i < n {
+        to[i] = from[i];
+        i += 1;
+    }
+}
+
+// A word as four octets.
+fn word_octets(order: Order, x: u32) -> [u8; 4]
+    ensures { λ r. ⌜ r ≡ octetsOf order 4 x ⌝ }
+{
+    let a = (x / 16777216 % 256) as u8;
+    let b = (x / 65536 % 256) as u8;
+    let c = (x / 256 % 256) as u8;
+    let d = (x % 256) as u8;
+    match order {
+        Order::HighestFirst => [a, b, c, d],
+        Order::LowestFirst => [d, c, b, a],
+    }
+}
+
+// Writes four octets into a buffer.
+fn put_four(octets: [u8; 4], at: usize, out: &mut [u8])
+    requires { ⌜ at + 4 ≤ length (now out) ⌝ }
+    ensures { λ _. ⌜ now (out .exit) ≡ take at (now (out .entry)) ++ octets ++ drop (at + 4) (now (out .entry)) ⌝ }
+{
+    copy(&octets, &mut out[at..]);
+}
+
 // An octet as a word.
-pub fn wide(x: u8) -> u32
+fn wide(x: u8) -> u32
     ensures { λ r. ⌜ r ≡ x ⌝ }
 {
     x as u32
+}
+
+// The smaller of two lengths.
+fn least(a: usize, b: usize) -> usize
+    ensures { λ r. ⌜ r ≡ min a b ⌝ }
+{
+    if a < b { a } else { b }
 }

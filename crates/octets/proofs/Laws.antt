@@ -1,0 +1,120 @@
+-- What the proofs of this crate cite: a turn by no place, a copy one octet longer, a part of a buffer written, words written one after the other.
+use mathlib.Core.Path.{_≡_, refl, sym, ap, _∙_}
+use mathlib.Core.List.{List, [], _∷_, _++_, append-assoc, append-nil, reverse}
+use Prim.Native.Nat.{ℕ, suc, _+_, _*_, _-_, _/_, _%_, _^_, _≤_, _<_, min}
+use native.Mathlib.Numerals.{add-one}
+use native.Mathlib.Decide.{decLe}
+use native.Mathlib.Omega.{arith}
+use lib.Bits.{or-zero-r}
+use lib.ListN.{length, take, drop, getD, set, replicate, length-append, length-drop, drop-of-length-le}
+use lib.Seq.{length-take-le, drop-cons, take-suc, set-at, take-all, take-at, drop-at, take-length, drop-drop}
+use borrow.Author.Tests.{le-leb, lt-leb}
+use borrow.Rule.Slice.PartMut.{putMid}
+use Rattle.octets.specs.Octets.{bigEndian, written, octetsOf, wordsOf, writtenIfRoom}
+use Rattle.octets.specs.declared.Order.{Order}
+use Rattle.octets.specs.declared.Order.the-variants.{HighestFirst, LowestFirst}
+use Rattle.octets.specs.Words.{rotl, rotr}
+
+-- a turn by no place
+pub rotl-none : (n x : ℕ) → n ≡ 0 → x < 2 ^ 32 → x ≡ rotl n x
+rotl-none n x e h =
+    let same : x * 1 % 2 ^ 32 ≡ x = omega arith in
+    let none : x / 2 ^ 32 ≡ 0 = omega arith in
+    rw (e, same, none, or-zero-r)
+
+pub rotr-none : (n x : ℕ) → n ≡ 0 → x < 2 ^ 32 → x ≡ rotr n x
+rotr-none n x e h =
+    let same : x / 1 ≡ x = omega arith in
+    let none : x * 2 ^ 32 % 2 ^ 32 ≡ 0 = omega arith in
+    rw (e, same, none, or-zero-r)
+
+-- the octets of a word, one by one
+pub four : (x : ℕ) → x / 16777216 % 256 ∷ x / 65536 % 256 ∷ x / 256 % 256 ∷ x % 256 ∷ [] ≡ bigEndian 4 x
+four x =
+    let last : x / 1 ≡ x = omega arith in
+    rw last
+
+-- the octets of a number of 64 bits are those of its two words
+pub eight : (x : ℕ) → bigEndian 4 (x / 4294967296) ++ bigEndian 4 (x % 4294967296) ≡ bigEndian 8 x
+eight x =
+    let a : x / 4294967296 / 256 ^ 3 % 256 ≡ x / 256 ^ 7 % 256 = omega arith in
+    let b : x / 4294967296 / 256 ^ 2 % 256 ≡ x / 256 ^ 6 % 256 = omega arith in
+    let c : x / 4294967296 / 256 ^ 1 % 256 ≡ x / 256 ^ 5 % 256 = omega arith in
+    let d : x / 4294967296 / 256 ^ 0 % 256 ≡ x / 256 ^ 4 % 256 = omega arith in
+    let e : x % 4294967296 / 256 ^ 3 % 256 ≡ x / 256 ^ 3 % 256 = omega arith in
+    let f : x % 4294967296 / 256 ^ 2 % 256 ≡ x / 256 ^ 2 % 256 = omega arith in
+    let g : x % 4294967296 / 256 ^ 1 % 256 ≡ x / 256 ^ 1 % 256 = omega arith in
+    let h : x % 4294967296 / 256 ^ 0 % 256 ≡ x / 256 ^ 0 % 256 = omega arith in
+    rw (a, b, c, d, e, f, g, h)
+
+-- one octet more is copied
+pub copy-more : {to : List ℕ} (from to₀ : List ℕ) (i : ℕ) → to ≡ written (take i from) to₀ → i < length from → i < length to₀
+    → set to i (getD from i 0) ≡ written (take (i + 1) from) to₀
+copy-more from to₀ i e hf ht =
+    let l : length (take i from) ≡ i = length-take-le i from (omega arith) in
+    let l′ : length (take (suc i) from) ≡ suc i = length-take-le (suc i) from (omega arith) in
+    rw
+    (e, add-one, l, l′, drop-cons to₀ i 0 ht, set-at (take i from) (getD to₀ i 0) (drop (suc i) to₀) (getD from i 0) i l, take-suc from i 0 hf, append-assoc)
+
+-- all that has room is copied
+pub copy-all : {to : List ℕ} (from to₀ : List ℕ) (n : ℕ) → to ≡ written (take n from) to₀ → n ≡ min (length from) (length to₀)
+    → to ≡ written (take (length to₀) from) to₀
+copy-all {to} from to₀ n e h = e ∙ rw same
+  where
+    same : take n from ≡ take (length to₀) from
+    same = go (decLe (length to₀) (length from))
+      where
+        go : Dec (length to₀ ≤ length from) → take n from ≡ take (length to₀) from
+        go (yes p) =
+            let all : n ≡ length to₀ = omega arith in
+            rw all
+        go (no p) = take-all n from (omega arith) ∙ sym (take-all (length to₀) from (omega arith))
+
+-- a result of k octets written into a part of a buffer that has room for it
+pub put-part : {k : ℕ} (at : ℕ) (q out : List ℕ) {p ys : List ℕ} → length q ≡ k → p ≡ take (length out - at) (drop at out)
+    → ys ≡ written (take (length p) q) p → at + k ≤ length out → putMid at (length out - at) out ys ≡ take at out ++ q ++ drop (at + k) out
+put-part at q out lq ep ey h =
+    let whole : length (drop at out) ≡ length out - at = length-drop at out in
+    let p : take (length out - at) (drop at out) ≡ drop at out = take-all (length out - at) (drop at out) (omega arith) in
+    let none : drop (length out - at) (drop at out) ≡ [] = drop-of-length-le (drop at out) {i = length out - at} (omega arith) in
+    rw (ey, ep, p, take-all (length (drop at out)) q (omega arith), none, lq, drop-drop, append-nil, append-assoc)
+
+-- a word is four octets, in either order
+length-octets : (order : Order) (w : ℕ) → length (octetsOf order 4 w) ≡ 4
+length-octets HighestFirst w = refl
+length-octets LowestFirst w = refl
+
+pub length-words : (order : Order) (ws : List ℕ) → length (wordsOf order ws) ≡ 4 * length ws
+length-words order [] = refl
+length-words order (w ∷ ws) = rw (length-append, length-octets order w, length-words order ws) (omega arith)
+
+words-snoc : (order : Order) (ws : List ℕ) (w : ℕ) → wordsOf order (ws ++ w ∷ []) ≡ wordsOf order ws ++ octetsOf order 4 w
+words-snoc order [] w = rw append-nil
+words-snoc order (v ∷ ws) w = rw (words-snoc order ws w, append-assoc)
+
+-- one word more is written
+pub words-more : {out out′ q : List ℕ} (order : Order) (ws out₀ : List ℕ) (i : ℕ) → out ≡ written (wordsOf order (take i ws)) out₀
+    → q ≡ octetsOf order 4 (getD ws i 0) → out′ ≡ take (4 * i) out ++ q ++ drop (4 * i + 4) out → i < length ws
+    → out′ ≡ written (wordsOf order (take (i + 1) ws)) out₀
+words-more order ws out₀ i e eq e′ h =
+    let l : length (wordsOf order (take i ws)) ≡ 4 * i = length-words order (take i ws) ∙ ap (λ (n : ℕ). 4 * n) (length-take-le i ws (omega arith)) in
+    rw
+    (e′, e, eq, add-one, take-suc ws i 0 h, words-snoc, l, take-at (wordsOf order (take i ws)) (drop (4 * i) out₀) (4 * i) l, ← drop-drop 4 (4 * i), drop-at (wordsOf order (take i ws)) (drop (4 * i) out₀) (4 * i) l, length-append, l, length-octets, drop-drop)
+
+-- the whole result is written where it has room
+pub words-all : {out : List ℕ} (order : Order) (ws out₀ : List ℕ) (i : ℕ) → out ≡ written (wordsOf order (take i ws)) out₀ → i ≡ length ws
+    → 4 * length ws ≤ length out₀ → out ≡ writtenIfRoom (wordsOf order ws) out₀
+words-all order ws out₀ i e ei h = e ∙ rw (ei, take-length, length-words, le-leb (4 * length ws) (length out₀) h)
+
+-- nothing is written where it has not
+pub words-none : (order : Order) (ws out : List ℕ) → length out / 4 < length ws → out ≡ writtenIfRoom (wordsOf order ws) out
+words-none order ws out h = rw (length-words, lt-leb (4 * length ws) (length out) (omega arith))
+
+-- a number of 64 bits, written as two words
+pub long-high : {order : Order} {out : List ℕ} (x : ℕ) → order ≡ HighestFirst
+    → out ≡ writtenIfRoom (wordsOf order (x / 4294967296 ∷ x % 4294967296 ∷ [])) (replicate 8 0) → out ≡ octetsOf order 8 x
+long-high x e h = rw e ((rw e at h) ∙ eight x)
+
+pub long-low : {order : Order} {out : List ℕ} (x : ℕ) → order ≡ LowestFirst
+    → out ≡ writtenIfRoom (wordsOf order (x % 4294967296 ∷ x / 4294967296 ∷ [])) (replicate 8 0) → out ≡ octetsOf order 8 x
+long-low x e h = rw e ((rw e at h) ∙ ap reverse (eight x))

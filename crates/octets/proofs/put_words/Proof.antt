@@ -1,0 +1,78 @@
+use mathlib.Core.Path.{_∙_, _≡_, refl}
+use Prim.Native.Nat.{_≤_, _-_, _*_}
+use native.Mathlib.Omega.{arith}
+use lib.ListN.{length, take}
+use denote.Ref.{now}
+use borrow.Author.Needs.{needs}
+use Rattle.octets.specs.Octets.{written, wordsOf}
+use Rattle.octets.proofs.Laws.{words-more, words-all, words-none}
+use Rattle.octets.proofs.put_words.Statement.{statement}
+use Rattle.octets.proofs.put_words.Tie as tie
+
+abbrev Inv-loop : tie.InvT-loop
+Inv-loop order words out₀ i₀ out i = (4 * length words ≤ length out₀) × (length out ≡ length out₀) × (i ≤ length words) × (out ≡ written (wordsOf order (take i words)) out₀)
+
+abbrev μ-loop : tie.MeasureT-loop
+μ-loop order words out₀ i₀ out i = length words - i
+
+returns : tie.Need-returns Inv-loop μ-loop
+returns c = words-none (c .before .before .before .args .order) (now (c .before .before .before .args .words)) _ (c .if1 .taken)
+
+loop-holds : tie.Need-loop-holds Inv-loop μ-loop
+loop-holds c = (omega arith, refl, omega arith, refl)
+
+mul-word-octets : tie.Need-mul-word-octets Inv-loop μ-loop
+mul-word-octets c = search needs
+
+shared-slice-read-word-octets : tie.Need-shared-slice-read-word-octets Inv-loop μ-loop
+shared-slice-read-word-octets c = search needs
+
+word-octets-requires : tie.Need-word-octets-requires Inv-loop μ-loop
+word-octets-requires c κs = search needs
+
+mul-put-four : tie.Need-mul-put-four Inv-loop μ-loop
+mul-put-four c = search needs
+
+put-four-requires : tie.Need-put-four-requires Inv-loop μ-loop
+put-four-requires c κs = search needs
+
+add-i : tie.Need-add-i Inv-loop μ-loop
+add-i c = search needs
+
+loop-less : tie.Need-loop-less Inv-loop μ-loop
+loop-less c = search needs
+
+loop-again : tie.Need-loop-again Inv-loop μ-loop
+loop-again c = let l = c .before .before .before .before .before .before .before .loop in (
+  l .inv .0,
+  c .before .before .put-four .kept .1 .1 .0 ∙ l .inv .1,
+  omega arith,
+  words-more _ _ _ (l .i) (l .inv .3) (c .before .before .before .before .word-octets .ensures) (c .before .before .put-four .ensures) (omega arith),
+)
+
+same-length : tie.Need-same-length Inv-loop μ-loop
+same-length c = search needs
+
+returns-2 : tie.Need-returns-2 Inv-loop μ-loop
+returns-2 c = let l = c .before .loop in
+    let done : l .i ≡ length (now (c .before .before .before .before .before .args .words)) = omega arith in
+    words-all _ _ _ _ (l .inv .3) done (l .inv .0)
+
+pub put-words-spec : {M : Type 1} → statement M
+put-words-spec =
+    tie.close
+    (tie.spec
+    Inv-loop
+    μ-loop
+    returns
+    loop-holds
+    mul-word-octets
+    shared-slice-read-word-octets
+    word-octets-requires
+    mul-put-four
+    put-four-requires
+    add-i
+    loop-less
+    loop-again
+    same-length
+    returns-2)
