@@ -1,0 +1,65 @@
+-- The laws of padding and of a run over blocks, over any compression function.
+use mathlib.Core.Path.{_≡_, refl, subst}
+use mathlib.Core.List.{List, _++_, append-assoc}
+use Prim.Native.Nat.{ℕ, zero, suc, _+_, _*_, _-_, _/_, _%_, _≤_, _<_}
+use native.Mathlib.Nat.{add-zero, add-suc}
+use native.Mathlib.Omega.{arith}
+use lib.ListN.{length, take, drop, length-append, length-drop, take-append-drop}
+use lib.Seq.{length-take-le, take-append-le, drop-append-le, drop-drop, drop-append-seam}
+use Rattle.octets.specs.declared.Order.{Order}
+use Rattle.blocks.specs.Blocks.{block, padding, padded, ending, after, absorbed, hashed, closed}
+
+-- a block of the first of two parts
+block-front : (p q : List ℕ) (n : ℕ) → 64 * suc n ≤ length p → block (p ++ q) n ≡ block p n
+block-front p q n h =
+    let l : length (drop (64 * n) p) ≡ length p - 64 * n = length-drop (64 * n) p in
+    rw (drop-append-le (64 * n) p q (omega arith), take-append-le 64 (drop (64 * n) p) q (omega arith))
+
+module _ {S : Type 0} (f : S → List ℕ → S) where
+  -- blocks of the first of two parts do not see the second
+  after-front : (s : S) (p q : List ℕ) (n : ℕ) → 64 * n ≤ length p → after f s (p ++ q) n ≡ after f s p n
+  unfolding after
+  after-front s p q zero h = refl
+  after-front s p q (suc n) h = rw (after-front s p q n (omega arith), block-front p q n h)
+
+  -- j blocks, and then n of what is left
+  after-add : (s : S) (m : List ℕ) (j n : ℕ) → after f s m (j + n) ≡ after f (after f s m j) (drop (64 * j) m) n
+  unfolding after
+  after-add s m j zero = rw add-zero
+  after-add s m j (suc n) =
+      let place : 64 * j + 64 * n ≡ 64 * (j + n) = omega arith in
+      rw (add-suc, after-add s m j n, drop-drop, place)
+
+  -- whole blocks in front are run first
+  pub absorbed-append : (s : S) (p q : List ℕ) → length p % 64 ≡ 0 → absorbed f s (p ++ q) ≡ absorbed f (absorbed f s p) q
+  absorbed-append s p q h =
+      let count : (length p + length q) / 64 ≡ length p / 64 + length q / 64 = omega arith in
+      let whole : 64 * (length p / 64) ≡ length p = omega arith in
+      rw (length-append, count, after-add s (p ++ q) (length p / 64) (length q / 64), after-front s p q (length p / 64) (omega arith), whole, drop-append-seam)
+
+  -- a message that begins with whole blocks: go on behind them
+  pub hashed-behind : (order : Order) (s : S) (p m : List ℕ) → length p % 64 ≡ 0
+      → hashed f order s (p ++ m) ≡ closed f order (absorbed f s p) (length p) m
+  hashed-behind order s p m h = rw (length-append p m, append-assoc) (absorbed-append s p (m ++ padding order (length p + length m)) h)
+
+  -- whole blocks p and a rest q
+  closed-parts : (order : Order) (s : S) (prior : ℕ) (p q : List ℕ) → prior % 64 ≡ 0 → length p % 64 ≡ 0 → length q < 64
+      → absorbed f (absorbed f s (p ++ q)) (q ++ padded order (length (p ++ q)) (8 * (prior + length (p ++ q)))) ≡ closed f order s prior (p ++ q)
+  unfolding after
+  closed-parts order s prior p q hs hp hq =
+      let none : length q / 64 ≡ 0 = omega arith in
+      let zeros : (prior + (length p + length q)) % 64 ≡ (length p + length q) % 64 = omega arith in
+      rw
+      (absorbed-append s p q hp, none, append-assoc, absorbed-append s p (q ++ padding order (prior + length (p ++ q))) hp, length-append p q, zeros)
+
+  -- the whole blocks of a message, and then the rest of it, padded
+  pub closed-is : (order : Order) (s : S) (prior : ℕ) (m : List ℕ) → prior % 64 ≡ 0
+      → absorbed f (absorbed f s m) (ending order m (8 * (prior + length m))) ≡ closed f order s prior m
+  closed-is order s prior m h =
+      let k : ℕ = 64 * (length m / 64) in
+      let front : length (take k m) ≡ k = length-take-le k m (omega arith) in
+      let rest : length (drop k m) ≡ length m - k = length-drop k m in
+      subst
+      (λ (x : List ℕ). absorbed f (absorbed f s x) (drop k m ++ padded order (length x) (8 * (prior + length x))) ≡ closed f order s prior x)
+      (take-append-drop k m)
+      (closed-parts order s prior (take k m) (drop k m) h (omega arith) (omega arith))

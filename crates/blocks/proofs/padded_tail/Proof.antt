@@ -1,0 +1,91 @@
+use mathlib.Core.Path.{_≡_, refl}
+use Prim.Native.Nat.{_+_, _-_, _%_}
+use native.Mathlib.Omega.{arith}
+use lib.ListN.{length, length-set}
+use denote.Ref.{now}
+use borrow.Author.Needs.{needs}
+use Rattle.blocks.proofs.Tails.{tail-is}
+use Rattle.blocks.proofs.padded_tail.Statement.{statement}
+use Rattle.blocks.proofs.padded_tail.Tie as tie
+
+sub-from : tie.Need-sub-from
+sub-from c = search needs
+
+add-len : tie.Need-add-len
+add-len c = search needs
+
+sub-len : tie.Need-sub-len
+sub-len c = search needs
+
+add-len-2 : tie.Need-add-len-2
+add-len-2 c = search needs
+
+sub-at : tie.Need-sub-at
+sub-at c = search needs
+
+sub-copy : tie.Need-sub-copy
+sub-copy c = search needs
+
+part-copy-start : tie.Need-part-copy-start
+part-copy-start c = search needs
+
+part-copy-end : tie.Need-part-copy-end
+part-copy-end c = search needs
+
+slice-aggregate-copy : tie.Need-slice-aggregate-copy
+slice-aggregate-copy c = search needs
+
+copy-requires : tie.Need-copy-requires
+copy-requires c κs = search needs
+
+array-write-buffer : tie.Need-array-write-buffer
+array-write-buffer c = search needs
+
+long-octets-requires : tie.Need-long-octets-requires
+long-octets-requires c κs = search needs
+
+slice-aggregate-copy-2 : tie.Need-slice-aggregate-copy-2
+slice-aggregate-copy-2 c = search needs
+
+sub-copy-2 : tie.Need-sub-copy-2
+sub-copy-2 c = search needs
+
+part-buffer-start : tie.Need-part-buffer-start
+part-buffer-start c = search needs
+
+part-buffer-end : tie.Need-part-buffer-end
+part-buffer-end c = let l : length (c .before .before .before .copy .last .1 .0) ≡ 128 = c .before .before .before .copy .kept .1 .0 in
+    simp length-set (omega arith)
+
+copy-requires-2 : tie.Need-copy-requires-2
+copy-requires-2 c κs = search needs
+
+returns : tie.Need-returns
+returns c = let a = c .before .before .before .before .before .before .before .before .before .before .args in
+    let m = now (a .m) in
+    let rest = length m % 64 in
+    let len = rest + 9 + (119 - rest) % 64 in
+    tail-is (a .order) m (a .bits) rest (length m - rest) (len - 8) len (c .before .before .before .before .before .before .copy .ensures) (c .before .before .before .before .long-octets .ensures) refl (c .before .copy2 .ensures) refl refl (omega arith) (omega arith)
+
+pub padded-tail-spec : {M : Type 1} → statement M
+padded-tail-spec =
+    tie.close
+    (tie.spec
+    sub-from
+    add-len
+    sub-len
+    add-len-2
+    sub-at
+    sub-copy
+    part-copy-start
+    part-copy-end
+    slice-aggregate-copy
+    copy-requires
+    array-write-buffer
+    long-octets-requires
+    slice-aggregate-copy-2
+    sub-copy-2
+    part-buffer-start
+    part-buffer-end
+    copy-requires-2
+    returns)
