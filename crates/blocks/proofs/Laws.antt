@@ -2,12 +2,14 @@
 use mathlib.Core.Path.{_≡_, refl, subst}
 use mathlib.Core.List.{List, _++_, append-assoc}
 use Prim.Native.Nat.{ℕ, zero, suc, _+_, _*_, _-_, _/_, _%_, _≤_, _<_}
-use native.Mathlib.Nat.{add-zero, add-suc}
+use native.Mathlib.Nat.{add-zero, zero-add, add-suc}
+use native.Mathlib.Numerals.{add-one}
 use native.Mathlib.Omega.{arith}
 use lib.ListN.{length, take, drop, length-append, length-drop, take-append-drop}
-use lib.Seq.{length-take-le, take-append-le, drop-append-le, drop-drop, drop-append-seam}
+use lib.Seq.{length-take-le, take-append-le, drop-append-le, drop-drop, drop-append-seam, take-append-seam}
 use Rattle.octets.specs.declared.Order.{Order}
-use Rattle.blocks.specs.Blocks.{block, padding, padded, ending, after, absorbed, hashed, closed}
+use Rattle.blocks.specs.declared.Tail.{Tail}
+use Rattle.blocks.specs.Blocks.{tailOf, block, padding, padded, ending, after, absorbed, hashed, closed}
 
 -- a block of the first of two parts
 block-front : (p q : List ℕ) (n : ℕ) → 64 * suc n ≤ length p → block (p ++ q) n ≡ block p n
@@ -21,6 +23,18 @@ module _ {S : Type 0} (f : S → List ℕ → S) where
   unfolding after
   after-front s p q zero h = refl
   after-front s p q (suc n) h = rw (after-front s p q n (omega arith), block-front p q n h)
+
+  -- a loop over the blocks begins, and goes on by one
+  pub after-none : (s : S) (m : List ℕ) → s ≡ after f s m 0
+  unfolding after
+  after-none s m = refl
+
+  pub after-more : {h h′ : S} (s : S) (m : List ℕ) (i : ℕ) → h ≡ after f s m i → h′ ≡ f h (take (64 * i + 64 - 64 * i) (drop (64 * i) m))
+      → h′ ≡ after f s m (i + 1)
+  unfolding after
+  after-more s m i e e′ =
+      let size : 64 * i + 64 - 64 * i ≡ 64 = omega arith in
+      rw (e′, e, size, add-one)
 
   -- j blocks, and then n of what is left
   after-add : (s : S) (m : List ℕ) (j n : ℕ) → after f s m (j + n) ≡ after f (after f s m j) (drop (64 * j) m) n
@@ -40,12 +54,13 @@ module _ {S : Type 0} (f : S → List ℕ → S) where
   -- a message that begins with whole blocks: go on behind them
   pub hashed-behind : (order : Order) (s : S) (p m : List ℕ) → length p % 64 ≡ 0
       → hashed f order s (p ++ m) ≡ closed f order (absorbed f s p) (length p) m
+  unfolding hashed closed
   hashed-behind order s p m h = rw (length-append p m, append-assoc) (absorbed-append s p (m ++ padding order (length p + length m)) h)
 
   -- whole blocks p and a rest q
   closed-parts : (order : Order) (s : S) (prior : ℕ) (p q : List ℕ) → prior % 64 ≡ 0 → length p % 64 ≡ 0 → length q < 64
       → absorbed f (absorbed f s (p ++ q)) (q ++ padded order (length (p ++ q)) (8 * (prior + length (p ++ q)))) ≡ closed f order s prior (p ++ q)
-  unfolding after
+  unfolding after closed
   closed-parts order s prior p q hs hp hq =
       let none : length q / 64 ≡ 0 = omega arith in
       let zeros : (prior + (length p + length q)) % 64 ≡ (length p + length q) % 64 = omega arith in
@@ -63,3 +78,16 @@ module _ {S : Type 0} (f : S → List ℕ → S) where
       (λ (x : List ℕ). absorbed f (absorbed f s x) (drop k m ++ padded order (length x) (8 * (prior + length x))) ≡ closed f order s prior x)
       (take-append-drop k m)
       (closed-parts order s prior (take k m) (drop k m) h (omega arith) (omega arith))
+
+  -- the hash value of a message as code makes it: its whole blocks, and then its last ones
+  pub closed-by : {h r : S} {t : Tail} {bits : ℕ} (order : Order) (s : S) (prior : ℕ) (m : List ℕ) → h ≡ absorbed f s m
+      → t ≡ tailOf order m bits → r ≡ absorbed f h (take (t .len) (t .octets)) → bits ≡ 8 * (prior + length m) → prior % 64 ≡ 0
+      → r ≡ closed f order s prior m
+  unfolding tailOf
+  closed-by order s prior m eh et er eb hp =
+      rw (er, eh, et, eb, take-append-seam (ending order m (8 * (prior + length m)))) (closed-is order s prior m hp)
+
+  -- a message with nothing before it
+  pub closed-alone : (order : Order) (s : S) (m : List ℕ) → closed f order s 0 m ≡ hashed f order s m
+  unfolding closed hashed
+  closed-alone order s m = rw zero-add

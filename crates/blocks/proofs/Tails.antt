@@ -4,7 +4,7 @@ use mathlib.Core.List.{List, [], _∷_, _++_, append-assoc, append-nil}
 use Prim.Native.Nat.{ℕ, zero, suc, _+_, _*_, _-_, _/_, _%_, _≤_}
 use native.Mathlib.Omega.{arith}
 use lib.ListN.{length, take, drop, set, replicate, length-append, length-drop, length-replicate, drop-of-length-le, replicate-append-replicate}
-use lib.Seq.{take-all, take-append-seam, drop-append-seam, set-append-seam}
+use lib.Seq.{length-take-le, take-all, take-append-seam, drop-append-seam, set-append-seam}
 use borrow.Rule.Slice.PartMut.{putMid}
 use Rattle.octets.specs.declared.Order.{Order}
 use Rattle.octets.specs.declared.Order.the-variants.{HighestFirst, LowestFirst}
@@ -83,6 +83,7 @@ pub tail-is : {b p w d : List ℕ} (order : Order) (m : List ℕ) (bits rest fro
     → p ≡ take (128 - at) (drop at (set b rest 0x80)) → d ≡ written (take (length p) w) p
     → rest ≡ length m % 64 → from ≡ length m - rest → at ≡ rest + 1 + (119 - rest) % 64 → len ≡ at + 8
     → _≡_ {A = Tail} (record { octets = putMid at (128 - at) (set b rest 0x80) d; len = len }) (tailOf order m bits)
+unfolding tailOf
 tail-is {b} {p} {w} {d} order m bits rest from at len eb ew ep ed er ef ea el =
     let r : List ℕ = drop (64 * (length m / 64)) m in
     let z : ℕ = (119 - length m % 64) % 64 in
@@ -100,3 +101,12 @@ tail-is {b} {p} {w} {d} order m bits rest from at len eb ew ep ed er ef ea el =
     let octets : putMid at (128 - at) (set b rest 0x80) d ≡ ending order m bits ++ replicate (128 - length (ending order m bits)) 0 =
     rw (ea′, er′) (put-ending r w z (128 - (length r + 1 + z)) eb′ (rw (ea′, er′) at ep) ed (whole _ fits) (rw lw (room _ fits)) ∙ rw (zeros, ew)) in
     rw (octets, len′)
+
+-- they are within their buffer
+pub tail-fits : {t : Tail} (order : Order) (m : List ℕ) (bits : ℕ) → t ≡ tailOf order m bits → t .len ≤ length (t .octets)
+unfolding tailOf
+tail-fits order m bits e =
+    rw (e, length-append (ending order m bits) (replicate (128 - length (ending order m bits)) 0)) (omega arith)
+
+pub tail-part : {t : Tail} (order : Order) (m : List ℕ) (bits : ℕ) → t ≡ tailOf order m bits → t .len ≡ length (take (t .len) (t .octets))
+tail-part {t} order m bits e = sym (length-take-le (t .len) (t .octets) (tail-fits order m bits e))

@@ -24,7 +24,7 @@ abbrev pub ending : Order → List ℕ → ℕ → List ℕ
 ending order m bits = drop (64 * (length m / 64)) m ++ padded order (length m) bits
 
 -- the same in front of zeros
-abbrev pub tailOf : Order → List ℕ → ℕ → Tail
+unfoldable pub tailOf : Order → List ℕ → ℕ → Tail
 tailOf order m bits =
     record { octets = ending order m bits ++ replicate (128 - length (ending order m bits)) 0; len = length (ending order m bits) }
 
@@ -39,9 +39,9 @@ module _ {S : Type 0} (compress : S → List ℕ → S) where
   absorbed s m = after s m (length m / 64)
 
   -- the hash value of a message, from the initial one
-  abbrev pub hashed : Order → S → List ℕ → S
+  unfoldable pub hashed : Order → S → List ℕ → S
   hashed order s m = absorbed s (m ++ padding order (length m))
 
   -- the hash value of a message that goes on behind `prior` octets, whole blocks that gave s
-  abbrev pub closed : Order → S → ℕ → List ℕ → S
+  unfoldable pub closed : Order → S → ℕ → List ℕ → S
   closed order s prior m = absorbed s (m ++ padding order (prior + length m))

@@ -1,0 +1,211 @@
+// SHA-1 (FIPS 180-4) of a lent text.
+ghost use mathlib.Core.Path.{_≡_};
+ghost use Prim.Native.Nat.{_+_, _*_, _<_, _≤_};
+ghost use lib.ListN.{length};
+ghost use Rattle.blocks.specs.Blocks.{absorbed as afterBlocks, hashed as hashedBy};
+ghost use Rattle.octets.specs.declared.Order.the-variants.{HighestFirst};
+ghost use Rattle.octets.specs.Words.{rotl};
+ghost use Rattle.octets.specs.Octets.{wordBE};
+ghost use Rattle.sha1.specs.Sha1.{f as choice, k as constant, initial, lateWord, schedule as words, round as roundOf, rounds, added as sums, compress as compressed, octetsIn, longest, sha1Answer};
+use octets::Order;
+use octets::add;
+use octets::rotl;
+
+// The longest text in octets.
+const LONGEST: usize = 65535;
+
+// The number answered, and the digest; zeros where it is refused.
+pub struct Digest {
+    pub answer: u8,
+    pub octets: [u8; 20],
+}
+
+// The hash value, and the working variables of a block's rounds.
+struct State {
+    a: u32,
+    b: u32,
+    c: u32,
+    d: u32,
+    e: u32,
+}
+
+// The digest of a text of 0 to 65,535 octets; a longer one is refused with 3.
+pub fn sha1(text: &[u8]) -> Digest
+    ensures { λ r. ⌜ r ≡ sha1Answer (now (text .entry)) ⌝ }
+{
+    if LONGEST < text.len() {
+        return Digest {
+            answer: answer::SIZE,
+            octets: [0u8; 20],
+        };
+    }
+    Digest {
+        answer: answer::DONE,
+        octets: octets_in(hashed(text)),
+    }
+}
+
+// The hash value of a padded text.
+fn hashed(text: &[u8]) -> State
+    requires { ⌜ length (now text) ≤ longest ⌝ }
+    ensures { λ r. ⌜ r ≡ hashedBy compressed HighestFirst initial (now (text .entry)) ⌝ }
+{
+    let start = State {
+        a: 0x67452301,
+        b: 0xefcdab89,
+        c: 0x98badcfe,
+        d: 0x10325476,
+        e: 0xc3d2e1f0,
+    };
+    let s = absorbed(start, text);
+    let tail = blocks::padded_tail(Order::HighestFirst, text, 8 * (text.len() as u64));
+    let last = tail.octets;
+    let n = tail.len;
+    absorbed(s, &last[..n])
+}
+
+// The hash value after all whole blocks of m.
+fn absorbed(s: State, m: &[u8]) -> State
+    ensures { λ r. ⌜ r ≡ afterBlocks compressed s (now (m .entry)) ⌝ }
+{
+    let mut h = s;
+    let mut i = 0;
+    while i < m.len() / 64 {
+        let from = 64 * i;
+        let to = from + 64;
+        h = compress(h, &m[from..to]);
+        i += 1;
+    }
+    h
+}
+
+// The hash value after one block.
+fn compress(h: State, block: &[u8]) -> State
+    requires { ⌜ length (now block) ≡ 64 ⌝ }
+    ensures { λ r. ⌜ r ≡ compressed h (now (block .entry)) ⌝ }
+{
+    let w = schedule(block);
+    let s1 = twenty(h, &w, 0);
+    let s2 = twenty(s1, &w, 1);
+    let s3 = twenty(s2, &w, 2);
+    let s4 = twenty(s3, &w, 3);
+    added(h, s4)
+}
+
+// The message schedule of a block.
+fn schedule(block: &[u8]) -> [u32; 80]
+    requires { ⌜ length (now block) ≡ 64 ⌝ }
+    ensures { λ r. ⌜ r ≡ words (now (block .entry)) 80 ⌝ }
+{
+    let mut w = [0u32; 80];
+    let mut t = 0;
+    while t < 16 {
+        w[t] = word_at(block, t);
+        t += 1;
+    }
+    while t < 80 {
+        w[t] = late_word(&w, t);
+        t += 1;
+    }
+    w
+}
+
+// Word t of a block.
+fn word_at(block: &[u8], t: usize) -> u32
+    requires { ⌜ (length (now block) ≡ 64) × (t < 16) ⌝ }
+    ensures { λ r. ⌜ r ≡ wordBE (now (block .entry)) (4 * t) ⌝ }
+{
+    let i = 4 * t;
+    octets::word(block[i], block[i + 1], block[i + 2], block[i + 3])
+}
+
+// Word t of the schedule, from those before it.
+fn late_word(w: &[u32; 80], t: usize) -> u32
+    requires { ⌜ (16 ≤ t) × (t < 80) ⌝ }
+    ensures { λ r. ⌜ r ≡ lateWord (now (w .entry)) t ⌝ }
+{
+    rotl(w[t - 3] ^ w[t - 8] ^ w[t - 14] ^ w[t - 16], 1)
+}
+
+// Twenty rounds, from round 20 * q on.
+fn twenty(s: State, w: &[u32; 80], q: usize) -> State
+    requires { ⌜ q < 4 ⌝ }
+    ensures { λ r. ⌜ r ≡ rounds (now (w .entry)) (20 * q) 20 s ⌝ }
+{
+    let mut x = s;
+    let mut i = 0;
+    while i < 20 {
+        x = round(x, w, 20 * q + i);
+        i += 1;
+    }
+    x
+}
+
+// Round t.
+fn round(s: State, w: &[u32; 80], t: usize) -> State
+    requires { ⌜ t < 80 ⌝ }
+    ensures { λ r. ⌜ r ≡ roundOf (now (w .entry)) t s ⌝ }
+{
+    let mixed = add(add(rotl(s.a, 5), f(t, s.b, s.c, s.d)), s.e);
+    State {
+        a: add(add(mixed, k(t)), w[t]),
+        b: s.a,
+        c: rotl(s.b, 30),
+        d: s.c,
+        e: s.d,
+    }
+}
+
+// The function of round t.
+fn f(t: usize, x: u32, y: u32, z: u32) -> u32
+    ensures { λ r. ⌜ r ≡ choice t x y z ⌝ }
+{
+    if t < 20 {
+        return (x & y) ^ (!x & z);
+    }
+    if t < 40 {
+        return x ^ y ^ z;
+    }
+    if t < 60 {
+        return (x & y) ^ (x & z) ^ (y & z);
+    }
+    x ^ y ^ z
+}
+
+// The constant of round t.
+fn k(t: usize) -> u32
+    ensures { λ r. ⌜ r ≡ constant t ⌝ }
+{
+    if t < 20 {
+        return 0x5a827999;
+    }
+    if t < 40 {
+        return 0x6ed9eba1;
+    }
+    if t < 60 {
+        return 0x8f1bbcdc;
+    }
+    0xca62c1d6
+}
+
+// The working variables added to the hash value.
+fn added(h: State, s: State) -> State
+    ensures { λ r. ⌜ r ≡ sums h s ⌝ }
+{
+    State {
+        a: add(s.a, h.a),
+        b: add(s.b, h.b),
+        c: add(s.c, h.c),
+        d: add(s.d, h.d),
+        e: add(s.e, h.e),
+    }
+}
+
+// The digest's octets.
+fn octets_in(h: State) -> [u8; 20]
+    ensures { λ r. ⌜ r ≡ octetsIn h ⌝ }
+{
+    let mut out = [0u8; 20];
+    octets::put_words(Order::HighestFirst, &[h.a, h.b, h.c, h.d, h.e], &mut out);
+    out
+}
