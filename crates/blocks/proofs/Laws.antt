@@ -2,14 +2,36 @@
 use mathlib.Core.Path.{_≡_, refl, subst}
 use mathlib.Core.List.{List, _++_, append-assoc}
 use Prim.Native.Nat.{ℕ, zero, suc, _+_, _*_, _-_, _/_, _%_, _≤_, _<_}
-use native.Mathlib.Nat.{add-zero, zero-add, add-suc}
+use native.Mathlib.Nat.{add-zero, zero-add, add-suc, add-assoc}
 use native.Mathlib.Numerals.{add-one}
 use native.Mathlib.Omega.{arith}
-use lib.ListN.{length, take, drop, length-append, length-drop, take-append-drop}
-use lib.Seq.{length-take-le, take-append-le, drop-append-le, drop-drop, drop-append-seam, take-append-seam}
+use lib.ListN.{length, take, drop, length-append, length-drop, take-append-drop, set}
+use lib.Seq.{length-take-le, take-append-le, drop-append-le, drop-drop, drop-append-seam, take-append-seam, take-suc-set}
 use Rattle.octets.specs.declared.Order.{Order}
 use Rattle.blocks.specs.declared.Tail.{Tail}
-use Rattle.blocks.specs.Blocks.{tailOf, block, padding, padded, ending, after, absorbed, hashed, closed}
+use Rattle.blocks.specs.Blocks.{schedule, rounds, tailOf, block, padding, padded, ending, after, absorbed, hashed, closed}
+
+-- one word more of a schedule
+pub word-more : {x : ℕ} (next : List ℕ → ℕ → ℕ) (w : List ℕ) (t : ℕ) → take t w ≡ schedule next t → x ≡ next (take t w) t → t < length w
+    → take (t + 1) (set w t x) ≡ schedule next (t + 1)
+unfolding schedule
+word-more {x} next w t e ex h = rw (add-one, take-suc-set w t x h, ex, e)
+
+module _ {S : Type 0} (round : ℕ → S → S) where
+  -- a loop over rounds begins, and goes on by one
+  pub round-none : (t : ℕ) (s : S) → s ≡ rounds round t 0 s
+  unfolding rounds
+  round-none t s = refl
+
+  pub round-more : {x y : S} (t n : ℕ) (s : S) → x ≡ rounds round t n s → y ≡ round (t + n) x → y ≡ rounds round t (n + 1) s
+  unfolding rounds
+  round-more t n s e ey = rw (ey, e, add-one)
+
+  -- m rounds, and then n more
+  pub rounds-add : (t m n : ℕ) (s : S) → rounds round (t + m) n (rounds round t m s) ≡ rounds round t (m + n) s
+  unfolding rounds
+  rounds-add t m zero s = rw add-zero
+  rounds-add t m (suc n) s = rw (add-suc, rounds-add t m n s, add-assoc)
 
 -- a block of the first of two parts
 block-front : (p q : List ℕ) (n : ℕ) → 64 * suc n ≤ length p → block (p ++ q) n ≡ block p n

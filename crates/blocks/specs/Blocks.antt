@@ -1,6 +1,6 @@
 -- A message padded, cut into blocks of 64 octets and run over a compression function: what MD4 (RFC 1320, 3.1 to 3.4),
 -- SHA-1 and SHA-256 (FIPS 180-4, 5.1.1, 5.2.1, 6.1.2 and 6.2.2) share.
-use mathlib.Core.List.{List, _∷_, _++_}
+use mathlib.Core.List.{List, [], _∷_, _++_}
 use Prim.Native.Nat.{ℕ, zero, suc, _+_, _*_, _-_, _/_, _%_}
 use lib.ListN.{length, take, drop, replicate}
 use Rattle.octets.specs.declared.Order.{Order}
@@ -27,6 +27,16 @@ ending order m bits = drop (64 * (length m / 64)) m ++ padded order (length m) b
 unfoldable pub tailOf : Order → List ℕ → ℕ → Tail
 tailOf order m bits =
     record { octets = ending order m bits ++ replicate (128 - length (ending order m bits)) 0; len = length (ending order m bits) }
+
+-- the first t words of a message schedule, each made from those before it and its number
+unfoldable pub schedule : (List ℕ → ℕ → ℕ) → ℕ → List ℕ
+schedule next zero = []
+schedule next (suc t) = schedule next t ++ next (schedule next t) t ∷ []
+
+-- n rounds, from round t on
+unfoldable pub rounds : {S : Type 0} → (ℕ → S → S) → ℕ → ℕ → S → S
+rounds round t zero s = s
+rounds round t (suc n) s = round (t + n) (rounds round t n s)
 
 module _ {S : Type 0} (compress : S → List ℕ → S) where
   -- the hash value after the first n blocks of a message, from s

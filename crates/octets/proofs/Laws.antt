@@ -16,13 +16,13 @@ use Rattle.octets.specs.declared.Order.the-variants.{HighestFirst, Lowes
 use Rattle.octets.specs.Words.{rotl, rotr}
 
 -- a turn by no place
-pub rotl-none : (n x : ℕ) → n ≡ 0 → x < 2 ^ 32 → x ≡ rotl n x
+pub rotl-none : (n x : ℕ) → n % 32 ≡ 0 → x < 2 ^ 32 → x ≡ rotl n x
 rotl-none n x e h =
     let same : x * 1 % 2 ^ 32 ≡ x = omega arith in
     let none : x / 2 ^ 32 ≡ 0 = omega arith in
     rw (e, same, none, or-zero-r)
 
-pub rotr-none : (n x : ℕ) → n ≡ 0 → x < 2 ^ 32 → x ≡ rotr n x
+pub rotr-none : (n x : ℕ) → n % 32 ≡ 0 → x < 2 ^ 32 → x ≡ rotr n x
 rotr-none n x e h =
     let same : x / 1 ≡ x = omega arith in
     let none : x * 2 ^ 32 % 2 ^ 32 ≡ 0 = omega arith in

@@ -1,7 +1,7 @@
 // Words of 32 bits and octets: sums and turns of words, words as octets and back, copying.
 ghost use mathlib.Core.Path.{_≡_};
 ghost use mathlib.Core.List.{_++_};
-ghost use Prim.Native.Nat.{_+_, _*_, _%_, _^_, _≤_, min};
+ghost use Prim.Native.Nat.{_+_, _*_, _^_, _≤_, min};
 ghost use lib.ListN.{length, take, drop};
 ghost use Rattle.octets.specs.Octets.{octetsOf, wordsOf, written, writtenIfRoom};
 ghost use Rattle.octets.specs.Words.{_⊞_, rotl as turnedLeft, rotr as turnedRight};
@@ -21,7 +21,7 @@ pub fn add(x: u32, y: u32) -> u32
 
 // A word turned left.
 pub fn rotl(x: u32, n: u32) -> u32
-    ensures { λ r. ⌜ r ≡ turnedLeft (n % 32) x ⌝ }
+    ensures { λ r. ⌜ r ≡ turnedLeft n x ⌝ }
 {
     let k = n % 32;
     if k == 0 {
@@ -32,7 +32,7 @@ pub fn rotl(x: u32, n: u32) -> u32
 
 // A word turned right.
 pub fn rotr(x: u32, n: u32) -> u32
-    ensures { λ r. ⌜ r ≡ turnedRight (n % 32) x ⌝ }
+    ensures { λ r. ⌜ r ≡ turnedRight n x ⌝ }
 {
     let k = n % 32;
     if k == 0 {

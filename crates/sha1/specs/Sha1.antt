@@ -1,6 +1,6 @@
 -- SHA-1, as FIPS 180-4 defines it.
-use mathlib.Core.List.{List, [], _∷_, _++_}
-use Prim.Native.Nat.{ℕ, zero, suc, _+_, _*_, _-_}
+use mathlib.Core.List.{List, [], _∷_}
+use Prim.Native.Nat.{ℕ, _*_, _-_}
 use lib.Bits.{bitAnd, bitXor}
 use lib.Dec.{ltb}
 use lib.ListN.{length, getD, replicate}
@@ -8,7 +8,7 @@ use Rattle.answer.specs.Answer.{size, pick, firstOf, onDone}
 use Rattle.octets.specs.declared.Order.the-variants.{HighestFirst}
 use Rattle.octets.specs.Octets.{wordBE, wordsOf}
 use Rattle.octets.specs.Words.{_⊞_, rotl, complement}
-use Rattle.blocks.specs.Blocks.{hashed}
+use Rattle.blocks.specs.Blocks.{schedule, rounds, hashed}
 use Rattle.sha1.specs.declared.State.{State}
 use Rattle.sha1.specs.declared.Digest.{Digest}
 
@@ -40,11 +40,6 @@ lateWord w t = rotl 1 (bitXor (bitXor (bitXor (getD w (t - 3) 0) (getD w (t - 8)
 unfoldable pub nextWord : List ℕ → List ℕ → ℕ → ℕ
 nextWord block w t = pick (ltb t 16) (wordBE block (4 * t)) (lateWord w t)
 
--- its first t words
-unfoldable pub schedule : List ℕ → ℕ → List ℕ
-schedule block zero = []
-schedule block (suc t) = schedule block t ++ nextWord block (schedule block t) t ∷ []
-
 -- step 3: round t, on the working variables
 unfoldable pub round : List ℕ → ℕ → State → State
 round w t s = record {
@@ -55,18 +50,13 @@ round w t s = record {
   e = s .d;
 }
 
--- n rounds, from round t on
-unfoldable pub rounds : List ℕ → ℕ → ℕ → State → State
-rounds w t zero s = s
-rounds w t (suc n) s = round w (t + n) (rounds w t n s)
-
 -- step 4: the working variables added to the hash value
 abbrev pub added : State → State → State
 added h s = record { a = s .a ⊞ h .a; b = s .b ⊞ h .b; c = s .c ⊞ h .c; d = s .d ⊞ h .d; e = s .e ⊞ h .e }
 
 -- steps 1 to 4: the hash value after one block more
 unfoldable pub compress : State → List ℕ → State
-compress h block = added h (rounds (schedule block 80) 0 80 h)
+compress h block = added h (rounds (round (schedule (nextWord block) 80)) 0 80 h)
 
 -- the message digest
 abbrev pub octetsIn : State → List ℕ

@@ -2,11 +2,11 @@
 ghost use mathlib.Core.Path.{_≡_};
 ghost use Prim.Native.Nat.{_+_, _*_, _<_, _≤_};
 ghost use lib.ListN.{length};
-ghost use Rattle.blocks.specs.Blocks.{absorbed as afterBlocks, hashed as hashedBy};
+ghost use Rattle.blocks.specs.Blocks.{schedule as words, rounds, absorbed as afterBlocks, hashed as hashedBy};
 ghost use Rattle.octets.specs.declared.Order.the-variants.{HighestFirst};
 ghost use Rattle.octets.specs.Words.{rotl};
 ghost use Rattle.octets.specs.Octets.{wordBE};
-ghost use Rattle.sha1.specs.Sha1.{f as choice, k as constant, initial, lateWord, schedule as words, round as roundOf, rounds, added as sums, compress as compressed, octetsIn, longest, sha1Answer};
+ghost use Rattle.sha1.specs.Sha1.{f as choice, k as constant, initial, lateWord, nextWord, round as roundOf, added as sums, compress as compressed, octetsIn, longest, sha1Answer};
 use octets::Order;
 use octets::add;
 use octets::rotl;
@@ -95,7 +95,7 @@ fn compress(h: State, block: &[u8]) -> State
 // The message schedule of a block.
 fn schedule(block: &[u8]) -> [u32; 80]
     requires { ⌜ length (now block) ≡ 64 ⌝ }
-    ensures { λ r. ⌜ r ≡ words (now (block .entry)) 80 ⌝ }
+    ensures { λ r. ⌜ r ≡ words (nextWord (now (block .entry))) 80 ⌝ }
 {
     let mut w = [0u32; 80];
     let mut t = 0;
@@ -130,7 +130,7 @@ fn late_word(w: &[u32; 80], t: usize) -> u32
 // Twenty rounds, from round 20 * q on.
 fn twenty(s: State, w: &[u32; 80], q: usize) -> State
     requires { ⌜ q < 4 ⌝ }
-    ensures { λ r. ⌜ r ≡ rounds (now (w .entry)) (20 * q) 20 s ⌝ }
+    ensures { λ r. ⌜ r ≡ rounds (roundOf (now (w .entry))) (20 * q) 20 s ⌝ }
 {
     let mut x = s;
     let mut i = 0;

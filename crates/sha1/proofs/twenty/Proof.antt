@@ -1,21 +1,21 @@
-use mathlib.Core.Path.{refl, _≡_}
+use mathlib.Core.Path.{_≡_}
 use Prim.Native.Nat.{_≤_, _*_, _-_}
 use native.Mathlib.Omega.{arith}
 use borrow.Author.Needs.{needs}
-use Rattle.sha1.proofs.Laws.{one-round}
-use Rattle.sha1.specs.Sha1.{rounds}
+use Rattle.sha1.specs.Sha1.{round}
+use Rattle.blocks.proofs.Laws.{round-none, round-more}
+use Rattle.blocks.specs.Blocks.{rounds}
 use Rattle.sha1.proofs.twenty.Statement.{statement}
 use Rattle.sha1.proofs.twenty.Tie as tie
 
 abbrev Inv-loop : tie.InvT-loop
-Inv-loop w q x₀ i₀ x i = (i ≤ 20) × (x ≡ rounds w (20 * q) i x₀)
+Inv-loop w q x₀ i₀ x i = (i ≤ 20) × (x ≡ rounds (round w) (20 * q) i x₀)
 
 abbrev μ-loop : tie.MeasureT-loop
 μ-loop w q x₀ i₀ x i = 20 - i
 
 loop-holds : tie.Need-loop-holds Inv-loop μ-loop
-unfolding rounds
-loop-holds c = (omega arith, refl)
+loop-holds c = (omega arith, round-none _ _ _)
 
 mul-round : tie.Need-mul-round Inv-loop μ-loop
 mul-round c = search needs
@@ -33,7 +33,7 @@ loop-less : tie.Need-loop-less Inv-loop μ-loop
 loop-less c = search needs
 
 loop-again : tie.Need-loop-again Inv-loop μ-loop
-loop-again c = (omega arith, one-round _ _ _ _ (c .before .before .loop .inv .1) (c .round .ensures))
+loop-again c = (omega arith, round-more _ _ _ _ (c .before .before .loop .inv .1) (c .round .ensures))
 
 returns : tie.Need-returns Inv-loop μ-loop
 returns c = let done : c .before .loop .i ≡ 20 = omega arith in
