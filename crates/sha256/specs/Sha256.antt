@@ -1,6 +1,6 @@
 -- SHA-256, as FIPS 180-4 defines it.
-use mathlib.Core.List.{List, [], _∷_, _++_}
-use Prim.Native.Nat.{ℕ, zero, suc, _+_, _*_, _-_, _/_, _^_}
+use mathlib.Core.List.{List, [], _∷_}
+use Prim.Native.Nat.{ℕ, _*_, _-_, _/_, _^_}
 use lib.Bits.{bitAnd, bitXor}
 use lib.Dec.{ltb}
 use lib.ListN.{length, getD, replicate}
@@ -8,7 +8,7 @@ use Rattle.answer.specs.Answer.{size, pick, firstOf, onDone}
 use Rattle.octets.specs.declared.Order.the-variants.{HighestFirst}
 use Rattle.octets.specs.Octets.{wordBE, wordsOf}
 use Rattle.octets.specs.Words.{_⊞_, rotr, complement}
-use Rattle.blocks.specs.Blocks.{hashed}
+use Rattle.blocks.specs.Blocks.{schedule, rounds, hashed}
 use Rattle.sha256.specs.declared.State.{State}
 use Rattle.sha256.specs.declared.Digest.{Digest}
 
@@ -19,17 +19,23 @@ ch x y z = bitXor (bitAnd x y) (bitAnd (complement x) z)
 abbrev pub maj : ℕ → ℕ → ℕ → ℕ
 maj x y z = bitXor (bitXor (bitAnd x y) (bitAnd x z)) (bitAnd y z)
 
+abbrev pub bigSigma : ℕ → ℕ → ℕ → ℕ → ℕ
+bigSigma i j n x = bitXor (bitXor (rotr i x) (rotr j x)) (rotr n x)
+
+abbrev pub smallSigma : ℕ → ℕ → ℕ → ℕ → ℕ
+smallSigma i j n x = bitXor (bitXor (rotr i x) (rotr j x)) (x / 2 ^ n)
+
 abbrev pub Σ₀ : ℕ → ℕ
-Σ₀ x = bitXor (bitXor (rotr 2 x) (rotr 13 x)) (rotr 22 x)
+Σ₀ x = bigSigma 2 13 22 x
 
 abbrev pub Σ₁ : ℕ → ℕ
-Σ₁ x = bitXor (bitXor (rotr 6 x) (rotr 11 x)) (rotr 25 x)
+Σ₁ x = bigSigma 6 11 25 x
 
 abbrev pub σ₀ : ℕ → ℕ
-σ₀ x = bitXor (bitXor (rotr 7 x) (rotr 18 x)) (x / 2 ^ 3)
+σ₀ x = smallSigma 7 18 3 x
 
 abbrev pub σ₁ : ℕ → ℕ
-σ₁ x = bitXor (bitXor (rotr 17 x) (rotr 19 x)) (x / 2 ^ 10)
+σ₁ x = smallSigma 17 19 10 x
 
 -- 4.2.2: the constants
 unfoldable pub k : List ℕ
@@ -63,11 +69,6 @@ lateWord w t = σ₁ (getD w (t - 2) 0) ⊞ getD w (t - 7) 0 ⊞ σ₀ (getD w (
 unfoldable pub nextWord : List ℕ → List ℕ → ℕ → ℕ
 nextWord block w t = pick (ltb t 16) (wordBE block (4 * t)) (lateWord w t)
 
--- its first t words
-unfoldable pub schedule : List ℕ → ℕ → List ℕ
-schedule block zero = []
-schedule block (suc t) = schedule block t ++ nextWord block (schedule block t) t ∷ []
-
 -- step 3: round t, on the working variables
 abbrev pub t₁ : List ℕ → ℕ → State → ℕ
 t₁ w t s = s .h ⊞ Σ₁ (s .e) ⊞ ch (s .e) (s .f) (s .g) ⊞ getD k t 0 ⊞ getD w t 0
@@ -87,11 +88,6 @@ round w t s = record {
   h = s .g;
 }
 
--- n rounds, from round t on
-unfoldable pub rounds : List ℕ → ℕ → ℕ → State → State
-rounds w t zero s = s
-rounds w t (suc n) s = round w (t + n) (rounds w t n s)
-
 -- step 4: the working variables added to the hash value
 abbrev pub added : State → State → State
 added h s = record {
@@ -107,7 +103,7 @@ added h s = record {
 
 -- steps 1 to 4: the hash value after one block more
 unfoldable pub compress : State → List ℕ → State
-compress h block = added h (rounds (schedule block 64) 0 64 h)
+compress h block = added h (rounds (round (schedule (nextWord block) 64)) 0 64 h)
 
 -- the message digest
 abbrev pub octetsIn : State → List ℕ

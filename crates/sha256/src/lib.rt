@@ -2,10 +2,10 @@
 ghost use mathlib.Core.Path.{_≡_};
 ghost use Prim.Native.Nat.{_+_, _*_, _%_, _<_, _≤_};
 ghost use lib.ListN.{length, getD};
-ghost use Rattle.blocks.specs.Blocks.{absorbed as afterBlocks, closed as closedBy};
+ghost use Rattle.blocks.specs.Blocks.{schedule as words, rounds, absorbed as afterBlocks, closed as closedBy};
 ghost use Rattle.octets.specs.declared.Order.the-variants.{HighestFirst};
 ghost use Rattle.octets.specs.Octets.{wordBE};
-ghost use Rattle.sha256.specs.Sha256.{ch, maj, Σ₀, Σ₁, σ₀, σ₁, k as constants, initial as initialValue, lateWord, schedule as words, round as roundOf, rounds, added as sums, compress as compressed, octetsIn, longest, sha256Answer};
+ghost use Rattle.sha256.specs.Sha256.{bigSigma, smallSigma, k as constants, initial as initialValue, lateWord, nextWord, round as roundOf, added as sums, compress as compressed, octetsIn, longest, sha256Answer};
 use octets::Order;
 use octets::add;
 use octets::rotr;
@@ -159,7 +159,7 @@ fn compress(h: State, block: &[u8]) -> State
 // The message schedule of a block.
 fn schedule(block: &[u8]) -> [u32; 64]
     requires { ⌜ length (now block) ≡ 64 ⌝ }
-    ensures { λ r. ⌜ r ≡ words (now (block .entry)) 64 ⌝ }
+    ensures { λ r. ⌜ r ≡ words (nextWord (now (block .entry))) 64 ⌝ }
 {
     let mut w = [0u32; 64];
     let mut t = 0;
@@ -188,19 +188,15 @@ fn late_word(w: &[u32; 64], t: usize) -> u32
     requires { ⌜ (16 ≤ t) × (t < 64) ⌝ }
     ensures { λ r. ⌜ r ≡ lateWord (now (w .entry)) t ⌝ }
 {
-    add(
-        add(
-            add(small_sigma1(w[t - 2]), w[t - 7]),
-            small_sigma0(w[t - 15]),
-        ),
-        w[t - 16],
-    )
+    let s0 = small_sigma(7, 18, 3, w[t - 15]);
+    let s1 = small_sigma(17, 19, 10, w[t - 2]);
+    add(add(add(s1, w[t - 7]), s0), w[t - 16])
 }
 
 // Sixteen rounds, from round 16 * q on.
 fn sixteen(s: State, w: &[u32; 64], q: usize) -> State
     requires { ⌜ q < 4 ⌝ }
-    ensures { λ r. ⌜ r ≡ rounds (now (w .entry)) (16 * q) 16 s ⌝ }
+    ensures { λ r. ⌜ r ≡ rounds (roundOf (now (w .entry))) (16 * q) 16 s ⌝ }
 {
     let mut x = s;
     let mut i = 0;
@@ -219,10 +215,13 @@ fn round(s: State, w: &[u32; 64], t: usize) -> State
     let chosen = (s.e & s.f) ^ (!s.e & s.g);
     let majority = (s.a & s.b) ^ (s.a & s.c) ^ (s.b & s.c);
     let t1 = add(
-        add(add(add(s.h, big_sigma1(s.e)), chosen), constant(t)),
+        add(
+            add(add(s.h, big_sigma(6, 11, 25, s.e)), chosen),
+            constant(t),
+        ),
         w[t],
     );
-    let t2 = add(big_sigma0(s.a), majority);
+    let t2 = add(big_sigma(2, 13, 22, s.a), majority);
     State {
         a: add(t1, t2),
         b: s.a,
@@ -243,29 +242,18 @@ fn constant(t: usize) -> u32
     K[t]
 }
 
-// 4.1.2: the functions of one word.
-fn big_sigma0(x: u32) -> u32
-    ensures { λ r. ⌜ r ≡ Σ₀ x ⌝ }
+// 4.1.2: three turns of a word, and two turns and a shift.
+fn big_sigma(i: u32, j: u32, n: u32, x: u32) -> u32
+    ensures { λ r. ⌜ r ≡ bigSigma i j n x ⌝ }
 {
-    rotr(x, 2) ^ rotr(x, 13) ^ rotr(x, 22)
+    rotr(x, i) ^ rotr(x, j) ^ rotr(x, n)
 }
 
-fn big_sigma1(x: u32) -> u32
-    ensures { λ r. ⌜ r ≡ Σ₁ x ⌝ }
+fn small_sigma(i: u32, j: u32, n: u32, x: u32) -> u32
+    requires { ⌜ n < 32 ⌝ }
+    ensures { λ r. ⌜ r ≡ smallSigma i j n x ⌝ }
 {
-    rotr(x, 6) ^ rotr(x, 11) ^ rotr(x, 25)
-}
-
-fn small_sigma0(x: u32) -> u32
-    ensures { λ r. ⌜ r ≡ σ₀ x ⌝ }
-{
-    rotr(x, 7) ^ rotr(x, 18) ^ (x >> 3)
-}
-
-fn small_sigma1(x: u32) -> u32
-    ensures { λ r. ⌜ r ≡ σ₁ x ⌝ }
-{
-    rotr(x, 17) ^ rotr(x, 19) ^ (x >> 10)
+    rotr(x, i) ^ rotr(x, j) ^ (x >> n)
 }
 
 // The working variables added to the hash value.

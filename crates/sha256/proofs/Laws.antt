@@ -1,0 +1,46 @@
+-- The words of the schedule, a block's rounds together, and the ways out of the call.
+use mathlib.Core.Path.{_≡_}
+use mathlib.Core.List.{List}
+use Prim.Native.Nat.{ℕ, _*_, _-_, _≤_, _<_}
+use native.Mathlib.Omega.{arith}
+use lib.ListN.{length, take, replicate}
+use lib.Seq.{getD-take}
+use borrow.Author.Tests.{lt-ltb, le-ltb}
+use Rattle.octets.specs.Octets.{wordBE}
+use Rattle.octets.specs.declared.Order.the-variants.{HighestFirst}
+use Rattle.blocks.specs.Blocks.{schedule, rounds, closed}
+use Rattle.blocks.proofs.Laws.{rounds-add, closed-alone}
+use Rattle.sha256.specs.Sha256.{lateWord, nextWord, round, added, compress, initial, octetsIn, sha256, longest, sha256Answer}
+use Rattle.sha256.specs.declared.State.{State}
+use Rattle.sha256.specs.declared.Digest.{Digest}
+
+-- a word of the block is the next word of the schedule
+pub early : {x : ℕ} (block w : List ℕ) (t : ℕ) → x ≡ wordBE block (4 * t) → t < 16 → x ≡ nextWord block (take t w) t
+unfolding nextWord
+early block w t ex h = rw (ex, lt-ltb t 16 h)
+
+-- so is one made from those before it
+pub late : {x : ℕ} (block w : List ℕ) (t : ℕ) → x ≡ lateWord w t → 16 ≤ t → x ≡ nextWord block (take t w) t
+unfolding nextWord
+late block w t ex h =
+    rw
+    (ex, le-ltb t 16 h, getD-take t w (t - 2) 0 (omega arith), getD-take t w (t - 7) 0 (omega arith), getD-take t w (t - 15) 0 (omega arith), getD-take t w (t - 16) 0 (omega arith))
+
+-- 64 rounds on the schedule, added to the hash value
+pub block-done : {s₁ s₂ s₃ s₄ r : State} {w : List ℕ} (h : State) (block : List ℕ) → w ≡ schedule (nextWord block) 64
+    → s₁ ≡ rounds (round w) 0 16 h → s₂ ≡ rounds (round w) 16 16 s₁ → s₃ ≡ rounds (round w) 32 16 s₂ → s₄ ≡ rounds (round w) 48 16 s₃
+    → r ≡ added h s₄ → r ≡ compress h block
+unfolding compress
+block-done h block ew e₁ e₂ e₃ e₄ er =
+    let f : ℕ → State → State = round (schedule (nextWord block) 64) in
+    rw (er, e₄, e₃, e₂, e₁, ew, rounds-add f 0 16 16 h, rounds-add f 0 32 16 h, rounds-add f 0 48 16 h)
+
+-- the two ways out of the call
+pub too-long : (m : List ℕ) → longest < length m → _≡_ {A = Digest} (record { answer = 3; octets = replicate 32 0 }) (sha256Answer m)
+unfolding sha256Answer
+too-long m h = rw (lt-ltb longest (length m) h)
+
+pub digested : {i h : State} {o : List ℕ} (m : List ℕ) → i ≡ initial → h ≡ closed compress HighestFirst i 0 m → o ≡ octetsIn h → length m ≤ longest
+    → _≡_ {A = Digest} (record { answer = 0; octets = o }) (sha256Answer m)
+unfolding sha256Answer sha256
+digested m ei eh eo h = rw (eo, eh, ei, closed-alone compress HighestFirst initial m, le-ltb longest (length m) h)

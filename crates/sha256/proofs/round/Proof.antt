@@ -1,0 +1,62 @@
+use borrow.Author.Needs.{needs}
+use Rattle.sha256.specs.Sha256.{round}
+use Rattle.sha256.proofs.round.Statement.{statement}
+use Rattle.sha256.proofs.round.Tie as tie
+
+big-sigma-requires : tie.Need-big-sigma-requires
+big-sigma-requires c κs = search needs
+
+add-requires : tie.Need-add-requires
+add-requires c κs = search needs
+
+add-requires-2 : tie.Need-add-requires-2
+add-requires-2 c κs = search needs
+
+constant-requires : tie.Need-constant-requires
+constant-requires c κs = search needs
+
+add-requires-3 : tie.Need-add-requires-3
+add-requires-3 c κs = search needs
+
+mul-add : tie.Need-mul-add
+mul-add c = search needs
+
+element-copy-out-add : tie.Need-element-copy-out-add
+element-copy-out-add c = search needs
+
+add-requires-4 : tie.Need-add-requires-4
+add-requires-4 c κs = search needs
+
+big-sigma-requires-2 : tie.Need-big-sigma-requires-2
+big-sigma-requires-2 c κs = search needs
+
+add-requires-5 : tie.Need-add-requires-5
+add-requires-5 c κs = search needs
+
+add-requires-6 : tie.Need-add-requires-6
+add-requires-6 c κs = search needs
+
+add-requires-7 : tie.Need-add-requires-7
+add-requires-7 c κs = search needs
+
+returns : tie.Need-returns
+unfolding round
+returns c = cc
+
+pub round-spec : {M : Type 1} → statement M
+round-spec =
+    tie.close
+    (tie.spec
+    big-sigma-requires
+    add-requires
+    add-requires-2
+    constant-requires
+    add-requires-3
+    mul-add
+    element-copy-out-add
+    add-requires-4
+    big-sigma-requires-2
+    add-requires-5
+    add-requires-6
+    add-requires-7
+    returns)
