@@ -1,12 +1,12 @@
 -- The laws of padding and of a run over blocks, over any compression function.
-use mathlib.Core.Path.{_≡_, refl, subst}
+use mathlib.Core.Path.{_≡_, refl, subst, _∙_}
 use mathlib.Core.List.{List, _++_, append-assoc}
 use Prim.Native.Nat.{ℕ, zero, suc, _+_, _*_, _-_, _/_, _%_, _≤_, _<_}
 use native.Mathlib.Nat.{add-zero, zero-add, add-suc, add-assoc}
 use native.Mathlib.Numerals.{add-one}
 use native.Mathlib.Omega.{arith}
 use lib.ListN.{length, take, drop, length-append, length-drop, take-append-drop, set}
-use lib.Seq.{length-take-le, take-append-le, drop-append-le, drop-drop, drop-append-seam, take-append-seam, take-suc-set}
+use lib.Seq.{length-take-le, take-append-le, drop-append-le, drop-drop, drop-append-seam, take-append-seam, take-all, take-suc-set}
 use Rattle.octets.specs.declared.Order.{Order}
 use Rattle.blocks.specs.declared.Tail.{Tail}
 use Rattle.blocks.specs.Blocks.{schedule, rounds, tailOf, block, padding, padded, ending, after, absorbed, hashed, closed}
@@ -74,10 +74,18 @@ module _ {S : Type 0} (f : S → List ℕ → S) where
       rw (length-append, count, after-add s (p ++ q) (length p / 64) (length q / 64), after-front s p q (length p / 64) (omega arith), whole, drop-append-seam)
 
   -- a message that begins with whole blocks: go on behind them
-  pub hashed-behind : (order : Order) (s : S) (p m : List ℕ) → length p % 64 ≡ 0
+  hashed-behind : (order : Order) (s : S) (p m : List ℕ) → length p % 64 ≡ 0
       → hashed f order s (p ++ m) ≡ closed f order (absorbed f s p) (length p) m
   unfolding hashed closed
   hashed-behind order s p m h = rw (length-append p m, append-assoc) (absorbed-append s p (m ++ padding order (length p + length m)) h)
+
+  -- a message that begins with one block
+  pub hashed-behind-one : (order : Order) (s : S) (b m : List ℕ) → length b ≡ 64 → hashed f order s (b ++ m) ≡ closed f order (f s b) 64 m
+  unfolding after
+  hashed-behind-one order s b m l =
+      let one : absorbed f s b ≡ f s b = rw (l, take-all 64 b (omega arith)) in
+      let whole : length b % 64 ≡ 0 = rw l in
+      hashed-behind order s b m whole ∙ rw (one, l)
 
   -- whole blocks p and a rest q
   closed-parts : (order : Order) (s : S) (prior : ℕ) (p q : List ℕ) → prior % 64 ≡ 0 → length p % 64 ≡ 0 → length q < 64

@@ -12,7 +12,7 @@ use Rattle.octets.specs.Octets.{octetsOf, written}
 use Rattle.blocks.specs.declared.Tail.{Tail}
 use Rattle.blocks.specs.Blocks.{tailOf, ending}
 
-drop-zeros : (k n : ℕ) → drop {A = ℕ} k (replicate n 0) ≡ replicate (n - k) 0
+pub drop-zeros : (k n : ℕ) → drop {A = ℕ} k (replicate n 0) ≡ replicate (n - k) 0
 drop-zeros zero n =
     let same : n - 0 ≡ n = omega arith in
     rw same

@@ -3,14 +3,14 @@ use mathlib.Core.Path.{_≡_}
 use mathlib.Core.List.{List}
 use Prim.Native.Nat.{ℕ, _*_, _-_, _≤_, _<_}
 use native.Mathlib.Omega.{arith}
-use lib.ListN.{length, take, replicate}
+use lib.ListN.{length, take}
 use lib.Seq.{getD-take}
 use borrow.Author.Tests.{lt-ltb, le-ltb}
 use Rattle.octets.specs.Octets.{wordBE}
 use Rattle.octets.specs.declared.Order.the-variants.{HighestFirst}
 use Rattle.blocks.specs.Blocks.{schedule, rounds, closed}
 use Rattle.blocks.proofs.Laws.{rounds-add, closed-alone}
-use Rattle.sha256.specs.Sha256.{lateWord, nextWord, round, added, compress, initial, octetsIn, sha256, longest, sha256Answer}
+use Rattle.sha256.specs.Sha256.{lateWord, nextWord, round, added, compress, initial, octetsIn, sha256, longest, refusal, sha256Answer}
 use Rattle.sha256.specs.declared.State.{State}
 use Rattle.sha256.specs.declared.Digest.{Digest}
 
@@ -35,12 +35,16 @@ block-done h block ew e₁ e₂ e₃ e₄ er =
     let f : ℕ → State → State = round (schedule (nextWord block) 64) in
     rw (er, e₄, e₃, e₂, e₁, ew, rounds-add f 0 16 16 h, rounds-add f 0 32 16 h, rounds-add f 0 48 16 h)
 
--- the two ways out of the call
-pub too-long : (m : List ℕ) → longest < length m → _≡_ {A = Digest} (record { answer = 3; octets = replicate 32 0 }) (sha256Answer m)
-unfolding sha256Answer
-too-long m h = rw (lt-ltb longest (length m) h)
+-- the digest, from the initial hash value on
+pub digest-is : {i h : State} {o : List ℕ} (m : List ℕ) → i ≡ initial → h ≡ closed compress HighestFirst i 0 m → o ≡ octetsIn h → o ≡ sha256 m
+unfolding sha256
+digest-is m ei eh eo = rw (← closed-alone compress HighestFirst initial m, ← ei, ← eh) eo
 
-pub digested : {i h : State} {o : List ℕ} (m : List ℕ) → i ≡ initial → h ≡ closed compress HighestFirst i 0 m → o ≡ octetsIn h → length m ≤ longest
-    → _≡_ {A = Digest} (record { answer = 0; octets = o }) (sha256Answer m)
-unfolding sha256Answer sha256
-digested m ei eh eo h = rw (eo, eh, ei, closed-alone compress HighestFirst initial m, le-ltb longest (length m) h)
+-- the two ways out of the call
+pub too-long : {r : Digest} (m : List ℕ) → longest < length m → r ≡ refusal → r ≡ sha256Answer m
+unfolding sha256Answer
+too-long m h e = rw (lt-ltb longest (length m) h) e
+
+pub digested : {o : List ℕ} (m : List ℕ) → o ≡ sha256 m → length m ≤ longest → _≡_ {A = Digest} (record { answer = 0; octets = o }) (sha256Answer m)
+unfolding sha256Answer
+digested m eo h = rw (eo, le-ltb longest (length m) h)

@@ -4,8 +4,8 @@ use Prim.Native.Nat.{ℕ, _-_}
 use lib.Bits.{bitXor}
 use lib.Dec.{ltb}
 use lib.ListN.{length, replicate}
-use Rattle.answer.specs.Answer.{size, pick, firstOf, onDone}
-use Rattle.sha256.specs.Sha256.{sha256, longest}
+use Rattle.answer.specs.Answer.{done, size, pick, firstOf, onDone}
+use Rattle.sha256.specs.Sha256.{sha256, longest, refusal}
 use Rattle.sha256.specs.declared.Digest.{Digest}
 
 -- the key in B octets: hashed first where it is longer, then zeros at its end
@@ -29,9 +29,9 @@ opad = 0x5C
 unfoldable pub hmac : List ℕ → List ℕ → List ℕ
 hmac key text = sha256 (padded opad (keyBlock key) ++ sha256 (padded ipad (keyBlock key) ++ text))
 
--- what the call answers: 3 and zeros for a longer key or text, else 0 and the code
+-- what the call answers
 abbrev pub hmacCode : List ℕ → List ℕ → ℕ
 hmacCode key text = firstOf ((size, ltb longest (length key)) ∷ (size, ltb longest (length text)) ∷ [])
 
 unfoldable pub hmacAnswer : List ℕ → List ℕ → Digest
-hmacAnswer key text = record { answer = hmacCode key text; octets = onDone (hmacCode key text) (hmac key text) (replicate 32 0) }
+hmacAnswer key text = onDone (hmacCode key text) (record { answer = done; octets = hmac key text }) refusal

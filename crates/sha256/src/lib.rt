@@ -1,11 +1,14 @@
 // SHA-256 (FIPS 180-4) and HMAC over it (RFC 2104) of lent texts.
+mod hmac;
+
+pub use hmac::hmac_sha256;
 ghost use mathlib.Core.Path.{_≡_};
 ghost use Prim.Native.Nat.{_+_, _*_, _%_, _<_, _≤_};
 ghost use lib.ListN.{length, getD};
 ghost use Rattle.blocks.specs.Blocks.{schedule as words, rounds, absorbed as afterBlocks, closed as closedBy};
 ghost use Rattle.octets.specs.declared.Order.the-variants.{HighestFirst};
 ghost use Rattle.octets.specs.Octets.{wordBE};
-ghost use Rattle.sha256.specs.Sha256.{bigSigma, smallSigma, k as constants, initial as initialValue, lateWord, nextWord, round as roundOf, added as sums, compress as compressed, octetsIn, longest, sha256Answer};
+ghost use Rattle.sha256.specs.Sha256.{bigSigma, smallSigma, k as constants, initial as initialValue, lateWord, nextWord, round as roundOf, added as sums, compress as compressed, octetsIn, longest, refusal, sha256Answer};
 use octets::Order;
 use octets::add;
 use octets::rotr;
@@ -104,14 +107,21 @@ pub fn sha256(text: &[u8]) -> Digest
     ensures { λ r. ⌜ r ≡ sha256Answer (now (text .entry)) ⌝ }
 {
     if LONGEST < text.len() {
-        return Digest {
-            answer: answer::SIZE,
-            octets: [0u8; 32],
-        };
+        return refused();
     }
     Digest {
         answer: answer::DONE,
         octets: octets_in(closed(initial(), 0, text)),
+    }
+}
+
+// What a text that is too long is answered.
+fn refused() -> Digest
+    ensures { λ r. ⌜ r ≡ refusal ⌝ }
+{
+    Digest {
+        answer: answer::SIZE,
+        octets: [0u8; 32],
     }
 }
 
