@@ -41,3 +41,7 @@ written result buffer = result ++ drop (length result) buffer
 -- the same where the result has room, and otherwise the buffer as it was
 abbrev pub writtenIfRoom : List ℕ → List ℕ → List ℕ
 writtenIfRoom result buffer = pick (leb (length result) (length buffer)) (written result buffer) buffer
+
+-- the longest text of a digest, an HMAC or RC4, and the longest key of an HMAC (01, "Lengths")
+abbrev pub longestText : ℕ
+longestText = 65535

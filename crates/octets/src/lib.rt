@@ -6,6 +6,9 @@ ghost use lib.ListN.{length, take, drop};
 ghost use Rattle.octets.specs.Octets.{octetsOf, wordsOf, written, writtenIfRoom};
 ghost use Rattle.octets.specs.Words.{_⊞_, rotl as turnedLeft, rotr as turnedRight};
 
+// The longest text of a digest, an HMAC or RC4, and the longest key of an HMAC (01, "Lengths").
+pub const LONGEST_TEXT: usize = 65535;
+
 // Which octet of a number stands in front.
 pub enum Order {
     HighestFirst,

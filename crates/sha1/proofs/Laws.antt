@@ -3,11 +3,11 @@ use mathlib.Core.Path.{_≡_}
 use mathlib.Core.List.{List}
 use Prim.Native.Nat.{ℕ, _*_, _-_, _≤_, _<_}
 use native.Mathlib.Omega.{arith}
-use lib.ListN.{length, take, replicate}
+use lib.ListN.{length, take}
 use lib.Seq.{getD-take}
 use borrow.Author.Tests.{lt-ltb, le-ltb}
-use Rattle.octets.specs.Octets.{wordBE}
-use Rattle.sha1.specs.Sha1.{lateWord, nextWord, round, added, compress, initial, octetsIn, sha1, longest, sha1Answer}
+use Rattle.octets.specs.Octets.{wordBE, longestText}
+use Rattle.sha1.specs.Sha1.{lateWord, nextWord, round, added, compress, initial, octetsIn, sha1, refusal, sha1Answer}
 use Rattle.octets.specs.declared.Order.the-variants.{HighestFirst}
 use Rattle.blocks.specs.Blocks.{schedule, rounds, hashed}
 use Rattle.blocks.proofs.Laws.{rounds-add}
@@ -36,11 +36,11 @@ block-done h block ew e₁ e₂ e₃ e₄ er =
     rw (er, e₄, e₃, e₂, e₁, ew, rounds-add f 0 20 20 h, rounds-add f 0 40 20 h, rounds-add f 0 60 20 h)
 
 -- the two ways out of the call
-pub too-long : (m : List ℕ) → longest < length m → _≡_ {A = Digest} (record { answer = 3; octets = replicate 20 0 }) (sha1Answer m)
+pub too-long : (m : List ℕ) → longestText < length m → refusal ≡ sha1Answer m
 unfolding sha1Answer
-too-long m h = rw (lt-ltb longest (length m) h)
+too-long m h = rw (lt-ltb longestText (length m) h)
 
-pub digested : {h : State} {o : List ℕ} (m : List ℕ) → h ≡ hashed compress HighestFirst initial m → o ≡ octetsIn h → length m ≤ longest
+pub digested : {h : State} {o : List ℕ} (m : List ℕ) → h ≡ hashed compress HighestFirst initial m → o ≡ octetsIn h → length m ≤ longestText
     → _≡_ {A = Digest} (record { answer = 0; octets = o }) (sha1Answer m)
 unfolding sha1Answer sha1
-digested m eh eo h = rw (eo, eh, le-ltb longest (length m) h)
+digested m eh eo h = rw (eo, eh, le-ltb longestText (length m) h)

@@ -5,14 +5,12 @@ ghost use lib.ListN.{length};
 ghost use Rattle.blocks.specs.Blocks.{schedule as words, rounds, absorbed as afterBlocks, hashed as hashedBy};
 ghost use Rattle.octets.specs.declared.Order.the-variants.{HighestFirst};
 ghost use Rattle.octets.specs.Words.{rotl};
-ghost use Rattle.octets.specs.Octets.{wordBE};
-ghost use Rattle.sha1.specs.Sha1.{f as choice, k as constant, initial, lateWord, nextWord, round as roundOf, added as sums, compress as compressed, octetsIn, longest, sha1Answer};
+ghost use Rattle.octets.specs.Octets.{wordBE, longestText};
+ghost use Rattle.sha1.specs.Sha1.{f as choice, k as constant, initial, lateWord, nextWord, round as roundOf, added as sums, compress as compressed, octetsIn, sha1Answer};
+use octets::LONGEST_TEXT;
 use octets::Order;
 use octets::add;
 use octets::rotl;
-
-// The longest text in octets.
-const LONGEST: usize = 65535;
 
 // The number answered, and the digest; zeros where it is refused.
 pub struct Digest {
@@ -33,7 +31,7 @@ struct State {
 pub fn sha1(text: &[u8]) -> Digest
     ensures { λ r. ⌜ r ≡ sha1Answer (now (text .entry)) ⌝ }
 {
-    if LONGEST < text.len() {
+    if LONGEST_TEXT < text.len() {
         return Digest {
             answer: answer::SIZE,
             octets: [0u8; 20],
@@ -47,7 +45,7 @@ pub fn sha1(text: &[u8]) -> Digest
 
 // The hash value of a padded text.
 fn hashed(text: &[u8]) -> State
-    requires { ⌜ length (now text) ≤ longest ⌝ }
+    requires { ⌜ length (now text) ≤ longestText ⌝ }
     ensures { λ r. ⌜ r ≡ hashedBy compressed HighestFirst initial (now (text .entry)) ⌝ }
 {
     let start = State {

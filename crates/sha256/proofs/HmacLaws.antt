@@ -8,12 +8,12 @@ use lib.Bits.{bitXor}
 use lib.ListN.{length, take, drop, getD, set, replicate, length-map}
 use lib.Seq.{take-all, take-suc, drop-cons, set-at, length-take-le, take-length, drop-length, getD-at}
 use borrow.Author.Tests.{lt-ltb, le-ltb}
-use Rattle.octets.specs.Octets.{written}
+use Rattle.octets.specs.Octets.{written, longestText}
 use Rattle.octets.specs.declared.Order.the-variants.{HighestFirst}
 use Rattle.blocks.specs.Blocks.{closed}
 use Rattle.blocks.proofs.Laws.{hashed-behind-one}
 use Rattle.blocks.proofs.Tails.{drop-zeros}
-use Rattle.sha256.specs.Sha256.{compress, initial, octetsIn, sha256, longest, refusal}
+use Rattle.sha256.specs.Sha256.{compress, initial, octetsIn, sha256, refusal}
 use Rattle.sha256.specs.Hmac.{keyBlock, padded, ipad, opad, hmac, hmacAnswer}
 use Rattle.sha256.specs.declared.State.{State}
 use Rattle.sha256.specs.declared.Digest.{Digest}
@@ -52,17 +52,17 @@ unfolding sha256
 behind block text l ei eh er eo = rw (hashed-behind-one compress HighestFirst initial block text l, ← ei, ← eh, ← er) eo
 
 -- the ways out of the call
-pub key-too-long : {r : Digest} (key text : List ℕ) → longest < length key → r ≡ refusal → r ≡ hmacAnswer key text
+pub key-too-long : {r : Digest} (key text : List ℕ) → longestText < length key → r ≡ refusal → r ≡ hmacAnswer key text
 unfolding hmacAnswer
-key-too-long key text h e = rw (lt-ltb longest (length key) h) e
+key-too-long key text h e = rw (lt-ltb longestText (length key) h) e
 
-pub text-too-long : {r : Digest} (key text : List ℕ) → length key ≤ longest → longest < length text → r ≡ refusal → r ≡ hmacAnswer key text
+pub text-too-long : {r : Digest} (key text : List ℕ) → length key ≤ longestText → longestText < length text → r ≡ refusal → r ≡ hmacAnswer key text
 unfolding hmacAnswer
-text-too-long key text hk h e = rw (le-ltb longest (length key) hk, lt-ltb longest (length text) h) e
+text-too-long key text hk h e = rw (le-ltb longestText (length key) hk, lt-ltb longestText (length text) h) e
 
 pub coded : {b p q inner o : List ℕ} (key text : List ℕ) → b ≡ keyBlock key → p ≡ padded ipad b → inner ≡ sha256 (p ++ text) → q ≡ padded opad b
-    → o ≡ sha256 (q ++ inner) → length key ≤ longest → length text ≤ longest
+    → o ≡ sha256 (q ++ inner) → length key ≤ longestText → length text ≤ longestText
     → _≡_ {A = Digest} (record { answer = 0; octets = o }) (hmacAnswer key text)
 unfolding hmacAnswer hmac
 coded key text eb ep ei eq eo hk ht =
-    rw (eo, eq, ei, ep, eb, le-ltb longest (length key) hk, le-ltb longest (length text) ht)
+    rw (eo, eq, ei, ep, eb, le-ltb longestText (length key) hk, le-ltb longestText (length text) ht)

@@ -6,11 +6,11 @@ use native.Mathlib.Omega.{arith}
 use lib.ListN.{length, take}
 use lib.Seq.{getD-take}
 use borrow.Author.Tests.{lt-ltb, le-ltb}
-use Rattle.octets.specs.Octets.{wordBE}
+use Rattle.octets.specs.Octets.{wordBE, longestText}
 use Rattle.octets.specs.declared.Order.the-variants.{HighestFirst}
 use Rattle.blocks.specs.Blocks.{schedule, rounds, closed}
 use Rattle.blocks.proofs.Laws.{rounds-add, closed-alone}
-use Rattle.sha256.specs.Sha256.{lateWord, nextWord, round, added, compress, initial, octetsIn, sha256, longest, refusal, sha256Answer}
+use Rattle.sha256.specs.Sha256.{lateWord, nextWord, round, added, compress, initial, octetsIn, sha256, refusal, sha256Answer}
 use Rattle.sha256.specs.declared.State.{State}
 use Rattle.sha256.specs.declared.Digest.{Digest}
 
@@ -41,10 +41,10 @@ unfolding sha256
 digest-is m ei eh eo = rw (← closed-alone compress HighestFirst initial m, ← ei, ← eh) eo
 
 -- the two ways out of the call
-pub too-long : {r : Digest} (m : List ℕ) → longest < length m → r ≡ refusal → r ≡ sha256Answer m
+pub too-long : {r : Digest} (m : List ℕ) → longestText < length m → r ≡ refusal → r ≡ sha256Answer m
 unfolding sha256Answer
-too-long m h e = rw (lt-ltb longest (length m) h) e
+too-long m h e = rw (lt-ltb longestText (length m) h) e
 
-pub digested : {o : List ℕ} (m : List ℕ) → o ≡ sha256 m → length m ≤ longest → _≡_ {A = Digest} (record { answer = 0; octets = o }) (sha256Answer m)
+pub digested : {o : List ℕ} (m : List ℕ) → o ≡ sha256 m → length m ≤ longestText → _≡_ {A = Digest} (record { answer = 0; octets = o }) (sha256Answer m)
 unfolding sha256Answer
-digested m eo h = rw (eo, le-ltb longest (length m) h)
+digested m eo h = rw (eo, le-ltb longestText (length m) h)

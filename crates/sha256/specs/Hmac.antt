@@ -5,7 +5,8 @@ use lib.Bits.{bitXor}
 use lib.Dec.{ltb}
 use lib.ListN.{length, replicate}
 use Rattle.answer.specs.Answer.{done, size, pick, firstOf, onDone}
-use Rattle.sha256.specs.Sha256.{sha256, longest, refusal}
+use Rattle.octets.specs.Octets.{longestText}
+use Rattle.sha256.specs.Sha256.{sha256, refusal}
 use Rattle.sha256.specs.declared.Digest.{Digest}
 
 -- the key in B octets: hashed first where it is longer, then zeros at its end
@@ -31,7 +32,7 @@ hmac key text = sha256 (padded opad (keyBlock key) ++ sha256 (padded ipad (keyBl
 
 -- what the call answers
 abbrev pub hmacCode : List ℕ → List ℕ → ℕ
-hmacCode key text = firstOf ((size, ltb longest (length key)) ∷ (size, ltb longest (length text)) ∷ [])
+hmacCode key text = firstOf ((size, ltb longestText (length key)) ∷ (size, ltb longestText (length text)) ∷ [])
 
 unfoldable pub hmacAnswer : List ℕ → List ℕ → Digest
 hmacAnswer key text = onDone (hmacCode key text) (record { answer = done; octets = hmac key text }) refusal

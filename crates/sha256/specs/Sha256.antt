@@ -6,7 +6,7 @@ use lib.Dec.{ltb}
 use lib.ListN.{length, getD, replicate}
 use Rattle.answer.specs.Answer.{done, size, pick, firstOf, onDone}
 use Rattle.octets.specs.declared.Order.the-variants.{HighestFirst}
-use Rattle.octets.specs.Octets.{wordBE, wordsOf}
+use Rattle.octets.specs.Octets.{wordBE, wordsOf, longestText}
 use Rattle.octets.specs.Words.{_⊞_, rotr, complement}
 use Rattle.blocks.specs.Blocks.{schedule, rounds, hashed}
 use Rattle.sha256.specs.declared.State.{State}
@@ -112,17 +112,13 @@ octetsIn s = wordsOf HighestFirst (s .a ∷ s .b ∷ s .c ∷ s .d ∷ s .e ∷ 
 unfoldable pub sha256 : List ℕ → List ℕ
 sha256 m = octetsIn (hashed compress HighestFirst initial m)
 
--- the longest text, and the longest HMAC key (01, "Lengths")
-abbrev pub longest : ℕ
-longest = 65535
-
 -- what a longer text is answered: 3 and zeros
 abbrev pub refusal : Digest
 refusal = record { answer = size; octets = replicate 32 0 }
 
 -- what the call answers
 abbrev pub sha256Code : List ℕ → ℕ
-sha256Code m = firstOf ((size, ltb longest (length m)) ∷ [])
+sha256Code m = firstOf ((size, ltb longestText (length m)) ∷ [])
 
 unfoldable pub sha256Answer : List ℕ → Digest
 sha256Answer m = onDone (sha256Code m) (record { answer = done; octets = sha256 m }) refusal

@@ -3,15 +3,16 @@ ghost use mathlib.Core.Path.{_≡_};
 ghost use mathlib.Core.List.{_++_};
 ghost use Prim.Native.Nat.{_≤_};
 ghost use lib.ListN.{length};
-ghost use Rattle.sha256.specs.Sha256.{sha256 as digestOf, longest};
+ghost use Rattle.octets.specs.Octets.{longestText};
+ghost use Rattle.sha256.specs.Sha256.{sha256 as digestOf};
 ghost use Rattle.sha256.specs.Hmac.{keyBlock, padded as paddedBy, hmacAnswer};
 use crate::Digest;
-use crate::LONGEST;
 use crate::closed;
 use crate::compress;
 use crate::initial;
 use crate::octets_in;
 use crate::refused;
+use octets::LONGEST_TEXT;
 
 // The inner and the outer pad.
 const IPAD: u8 = 0x36;
@@ -22,10 +23,10 @@ const OPAD: u8 = 0x5C;
 pub fn hmac_sha256(key: &[u8], text: &[u8]) -> Digest
     ensures { λ r. ⌜ r ≡ hmacAnswer (now (key .entry)) (now (text .entry)) ⌝ }
 {
-    if LONGEST < key.len() {
+    if LONGEST_TEXT < key.len() {
         return refused();
     }
-    if LONGEST < text.len() {
+    if LONGEST_TEXT < text.len() {
         return refused();
     }
     let block = key_block(key);
@@ -38,7 +39,7 @@ pub fn hmac_sha256(key: &[u8], text: &[u8]) -> Digest
 
 // The key as one block: hashed first where it is longer, then zeros.
 fn key_block(key: &[u8]) -> [u8; 64]
-    requires { ⌜ length (now key) ≤ longest ⌝ }
+    requires { ⌜ length (now key) ≤ longestText ⌝ }
     ensures { λ r. ⌜ r ≡ keyBlock (now (key .entry)) ⌝ }
 {
     let mut block = [0u8; 64];
@@ -66,7 +67,7 @@ fn padded(block: [u8; 64], pad: u8) -> [u8; 64]
 
 // The digest of a block and a text behind it.
 fn digest_behind(block: [u8; 64], text: &[u8]) -> [u8; 32]
-    requires { ⌜ length (now text) ≤ longest ⌝ }
+    requires { ⌜ length (now text) ≤ longestText ⌝ }
     ensures { λ r. ⌜ r ≡ digestOf (block ++ now (text .entry)) ⌝ }
 {
     octets_in(closed(compress(initial(), &block), 64, text))

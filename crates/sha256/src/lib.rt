@@ -7,14 +7,12 @@ ghost use Prim.Native.Nat.{_+_, _*_, _%_, _<_, _≤_};
 ghost use lib.ListN.{length, getD};
 ghost use Rattle.blocks.specs.Blocks.{schedule as words, rounds, absorbed as afterBlocks, closed as closedBy};
 ghost use Rattle.octets.specs.declared.Order.the-variants.{HighestFirst};
-ghost use Rattle.octets.specs.Octets.{wordBE};
-ghost use Rattle.sha256.specs.Sha256.{bigSigma, smallSigma, k as constants, initial as initialValue, lateWord, nextWord, round as roundOf, added as sums, compress as compressed, octetsIn, longest, refusal, sha256Answer};
+ghost use Rattle.octets.specs.Octets.{wordBE, longestText};
+ghost use Rattle.sha256.specs.Sha256.{bigSigma, smallSigma, k as constants, initial as initialValue, lateWord, nextWord, round as roundOf, added as sums, compress as compressed, octetsIn, refusal, sha256Answer};
+use octets::LONGEST_TEXT;
 use octets::Order;
 use octets::add;
 use octets::rotr;
-
-// The longest text, and the longest HMAC key, in octets.
-const LONGEST: usize = 65535;
 
 // 4.2.2: the constants.
 const K: [u32; 64] = [
@@ -106,7 +104,7 @@ struct State {
 pub fn sha256(text: &[u8]) -> Digest
     ensures { λ r. ⌜ r ≡ sha256Answer (now (text .entry)) ⌝ }
 {
-    if LONGEST < text.len() {
+    if LONGEST_TEXT < text.len() {
         return refused();
     }
     Digest {
@@ -127,7 +125,7 @@ fn refused() -> Digest
 
 // The hash value of a text that goes on behind `prior` octets, no block or one, that gave s.
 fn closed(s: State, prior: usize, text: &[u8]) -> State
-    requires { ⌜ (prior ≤ 64) × (prior % 64 ≡ 0) × (length (now text) ≤ longest) ⌝ }
+    requires { ⌜ (prior ≤ 64) × (prior % 64 ≡ 0) × (length (now text) ≤ longestText) ⌝ }
     ensures { λ r. ⌜ r ≡ closedBy compressed HighestFirst s prior (now (text .entry)) ⌝ }
 {
     let h = absorbed(s, text);

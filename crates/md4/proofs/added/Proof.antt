@@ -1,0 +1,21 @@
+use borrow.Author.Needs.{needs}
+use Rattle.md4.proofs.added.Statement.{statement}
+use Rattle.md4.proofs.added.Tie as tie
+
+add-requires : tie.Need-add-requires
+add-requires c κs = search needs
+
+add-requires-2 : tie.Need-add-requires-2
+add-requires-2 c κs = search needs
+
+add-requires-3 : tie.Need-add-requires-3
+add-requires-3 c κs = search needs
+
+add-requires-4 : tie.Need-add-requires-4
+add-requires-4 c κs = search needs
+
+returns : tie.Need-returns
+returns c = cc
+
+pub added-spec : {M : Type 1} → statement M
+added-spec = tie.close (tie.spec add-requires add-requires-2 add-requires-3 add-requires-4 returns)
