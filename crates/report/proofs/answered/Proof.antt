@@ -1,23 +1,20 @@
 use Prim.Native.Nat.{_≤_, _-_}
 use lib.ListN.{length}
 use borrow.Author.Needs.{needs}
-use Rattle.report.proofs.line.Statement.{statement}
-use Rattle.report.proofs.line.Tie as tie
+use Rattle.report.proofs.answered.Statement.{statement}
+use Rattle.report.proofs.answered.Tie as tie
 
 abbrev Inv-loop : tie.InvT-loop
-Inv-loop label answer octets i₀ t7 i = i ≤ length octets
+Inv-loop answer octets i₀ t6 i = i ≤ length octets
 
 abbrev μ-loop : tie.MeasureT-loop
-μ-loop label answer octets i₀ t7 i = length octets - i
-
-write-all-requires : tie.Need-write-all-requires Inv-loop μ-loop
-write-all-requires c κs = search needs
+μ-loop answer octets i₀ t6 i = length octets - i
 
 slice-aggregate-write-all : tie.Need-slice-aggregate-write-all Inv-loop μ-loop
 slice-aggregate-write-all c = search needs
 
-write-all-requires-2 : tie.Need-write-all-requires-2 Inv-loop μ-loop
-write-all-requires-2 c κs = search needs
+write-all-requires : tie.Need-write-all-requires Inv-loop μ-loop
+write-all-requires c κs = search needs
 
 wide-requires : tie.Need-wide-requires Inv-loop μ-loop
 wide-requires c κs = search needs
@@ -28,8 +25,8 @@ print-decimal-requires c κs = search needs
 slice-aggregate-write-all-2 : tie.Need-slice-aggregate-write-all-2 Inv-loop μ-loop
 slice-aggregate-write-all-2 c = search needs
 
-write-all-requires-3 : tie.Need-write-all-requires-3 Inv-loop μ-loop
-write-all-requires-3 c κs = search needs
+write-all-requires-2 : tie.Need-write-all-requires-2 Inv-loop μ-loop
+write-all-requires-2 c κs = search needs
 
 loop-holds : tie.Need-loop-holds Inv-loop μ-loop
 loop-holds c = search needs
@@ -55,25 +52,24 @@ loop-again c = search needs
 slice-aggregate-write-all-3 : tie.Need-slice-aggregate-write-all-3 Inv-loop μ-loop
 slice-aggregate-write-all-3 c = search needs
 
-write-all-requires-4 : tie.Need-write-all-requires-4 Inv-loop μ-loop
-write-all-requires-4 c κs = search needs
+write-all-requires-3 : tie.Need-write-all-requires-3 Inv-loop μ-loop
+write-all-requires-3 c κs = search needs
 
 returns : tie.Need-returns Inv-loop μ-loop
 returns c = search needs
 
-pub line-spec : {M : Type 1} → statement M
-line-spec =
+pub answered-spec : {M : Type 1} → statement M
+answered-spec =
     tie.close
     (tie.spec
     Inv-loop
     μ-loop
-    write-all-requires
     slice-aggregate-write-all
-    write-all-requires-2
+    write-all-requires
     wide-requires
     print-decimal-requires
     slice-aggregate-write-all-2
-    write-all-requires-3
+    write-all-requires-2
     loop-holds
     shared-slice-read-wide
     wide-requires-2
@@ -82,5 +78,5 @@ line-spec =
     loop-less
     loop-again
     slice-aggregate-write-all-3
-    write-all-requires-4
+    write-all-requires-3
     returns)
