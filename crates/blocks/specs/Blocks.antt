@@ -11,22 +11,13 @@ use Rattle.blocks.specs.declared.Tail.{Tail}
 abbrev pub block : List ℕ → ℕ → List ℕ
 block m n = take 64 (drop (64 * n) m)
 
--- behind n octets: the bit 1, the fewest zeros that leave 8 octets of a block, and those: a number of bits
+-- the padding behind n octets: the bit 1, the fewest zeros that leave 8 octets of a block, and in these a number of bits
 abbrev pub padded : Order → ℕ → ℕ → List ℕ
 padded order n bits = 0x80 ∷ replicate ((64 + 55 - n % 64) % 64) 0 ++ octetsOf order 8 bits
 
--- a message with its padding, whose last 8 octets are the message's length in bits
+-- the padding of a message of n octets, which ends with its length in bits
 abbrev pub padding : Order → ℕ → List ℕ
 padding order n = padded order n (8 * n)
-
--- the octets behind a message's last whole block, padded
-abbrev pub ending : Order → List ℕ → ℕ → List ℕ
-ending order m bits = drop (64 * (length m / 64)) m ++ padded order (length m) bits
-
--- the same in front of zeros
-unfoldable pub tailOf : Order → List ℕ → ℕ → Tail
-tailOf order m bits =
-    record { octets = ending order m bits ++ replicate (128 - length (ending order m bits)) 0; len = length (ending order m bits) }
 
 -- the first t words of a message schedule, each made from those before it and its number
 unfoldable pub schedule : (List ℕ → ℕ → ℕ) → ℕ → List ℕ
@@ -52,6 +43,15 @@ module _ {S : Type 0} (compress : S → List ℕ → S) where
   unfoldable pub hashed : Order → S → List ℕ → S
   hashed order s m = absorbed s (m ++ padding order (length m))
 
-  -- the hash value of a message that goes on behind `prior` octets, whole blocks that gave s
+  -- the hash value of a message that goes on behind `prior` octets, whole blocks that gave s: for code that keeps no message whole
   unfoldable pub closed : Order → S → ℕ → List ℕ → S
   closed order s prior m = absorbed s (m ++ padding order (prior + length m))
+
+-- the octets behind a message's last whole block, padded
+abbrev pub ending : Order → List ℕ → ℕ → List ℕ
+ending order m bits = drop (64 * (length m / 64)) m ++ padded order (length m) bits
+
+-- the same as a buffer of two blocks, with zeros behind, and how many octets of it they are
+unfoldable pub tailOf : Order → List ℕ → ℕ → Tail
+tailOf order m bits =
+    record { octets = ending order m bits ++ replicate (128 - length (ending order m bits)) 0; len = length (ending order m bits) }

@@ -26,7 +26,7 @@ g x y z = bitOr (bitOr (bitAnd x y) (bitAnd x z)) (bitAnd y z)
 abbrev pub h : ℕ → ℕ → ℕ → ℕ
 h x y z = bitXor (bitXor x y) z
 
--- of operation t, 0 to 47, sixteen a round: the function, the number added, the word of the block, the places turned
+-- of operation t, 0 to 47, sixteen a round: the function, the number added, the word of the block, the places to rotate by
 unfoldable pub mixed : ℕ → ℕ → ℕ → ℕ → ℕ
 mixed t x y z = pick (ltb t 16) (f x y z) (pick (ltb t 32) (g x y z) (h x y z))
 

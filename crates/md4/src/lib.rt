@@ -63,7 +63,7 @@ const PLACES: [usize; 48] = [
     15,
 ];
 
-// By how many places operations turn: four in turn, for each round.
+// By how many places operations rotate: four after each other, for each round.
 const SHIFTS: [u32; 12] = [3, 7, 11, 19, 3, 5, 9, 13, 3, 9, 11, 15];
 
 // The number answered, and the digest; zeros where it is refused.
@@ -202,7 +202,7 @@ fn place(t: usize) -> usize
     PLACES[t]
 }
 
-// The places that operation t turns by.
+// By how many places operation t rotates.
 fn shift(t: usize) -> u32
     requires { ⌜ t < 48 ⌝ }
     ensures { λ r. ⌜ r ≡ shiftOf t ⌝ }

@@ -1,4 +1,4 @@
--- What the proofs of this crate cite: a turn by no place, a copy one octet longer, a part of a buffer written, words written one after the other.
+-- What the proofs of this crate cite: a rotation by no place, a copy one octet longer, a part of a buffer written, words written one after the other.
 use mathlib.Core.Path.{_≡_, refl, sym, ap, _∙_}
 use mathlib.Core.List.{List, [], _∷_, _++_, append-assoc, append-nil, reverse}
 use Prim.Native.Nat.{ℕ, suc, _+_, _*_, _-_, _/_, _%_, _^_, _≤_, _<_, min}
@@ -15,7 +15,7 @@ use Rattle.octets.specs.declared.Order.{Order}
 use Rattle.octets.specs.declared.Order.the-variants.{HighestFirst, LowestFirst}
 use Rattle.octets.specs.Words.{rotl, rotr}
 
--- a turn by no place
+-- a rotation by no place
 pub rotl-none : (n x : ℕ) → n % 32 ≡ 0 → x < 2 ^ 32 → x ≡ rotl n x
 rotl-none n x e h =
     let same : x * 1 % 2 ^ 32 ≡ x = omega arith in

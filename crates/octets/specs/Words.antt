@@ -11,10 +11,10 @@ x ⊞ y = (x + y) % 2 ^ 32
 abbrev pub complement : ℕ → ℕ
 complement x = 2 ^ 32 - 1 - x
 
--- x turned left by n places; 32 places are no turn
+-- x rotated left by n places; 32 places are no rotation
 abbrev pub rotl : ℕ → ℕ → ℕ
 rotl n x = bitOr (x * 2 ^ (n % 32) % 2 ^ 32) (x / 2 ^ (32 - n % 32))
 
--- x turned right by n places
+-- x rotated right by n places
 abbrev pub rotr : ℕ → ℕ → ℕ
 rotr n x = bitOr (x / 2 ^ (n % 32)) (x * 2 ^ (32 - n % 32) % 2 ^ 32)

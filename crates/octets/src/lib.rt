@@ -1,10 +1,10 @@
-// Words of 32 bits and octets: sums and turns of words, words as octets and back, copying.
+// Words of 32 bits and octets: sums and rotations of words, words as octets and back, copying.
 ghost use mathlib.Core.Path.{_≡_};
 ghost use mathlib.Core.List.{_++_};
 ghost use Prim.Native.Nat.{_+_, _*_, _^_, _≤_, min};
 ghost use lib.ListN.{length, take, drop};
 ghost use Rattle.octets.specs.Octets.{octetsOf, wordsOf, written, writtenIfRoom};
-ghost use Rattle.octets.specs.Words.{_⊞_, rotl as turnedLeft, rotr as turnedRight};
+ghost use Rattle.octets.specs.Words.{_⊞_, rotl as rotatedLeft, rotr as rotatedRight};
 
 // The longest text of a digest, an HMAC or RC4, and the longest key of an HMAC (01, "Lengths").
 pub const LONGEST_TEXT: usize = 65535;
@@ -22,9 +22,9 @@ pub fn add(x: u32, y: u32) -> u32
     std::num::wrapping_add_u32(x, y)
 }
 
-// A word turned left.
+// A word rotated left.
 pub fn rotl(x: u32, n: u32) -> u32
-    ensures { λ r. ⌜ r ≡ turnedLeft n x ⌝ }
+    ensures { λ r. ⌜ r ≡ rotatedLeft n x ⌝ }
 {
     let k = n % 32;
     if k == 0 {
@@ -33,9 +33,9 @@ pub fn rotl(x: u32, n: u32) -> u32
     (x << k) | (x >> (32 - k))
 }
 
-// A word turned right.
+// A word rotated right.
 pub fn rotr(x: u32, n: u32) -> u32
-    ensures { λ r. ⌜ r ≡ turnedRight n x ⌝ }
+    ensures { λ r. ⌜ r ≡ rotatedRight n x ⌝ }
 {
     let k = n % 32;
     if k == 0 {

@@ -250,7 +250,7 @@ fn constant(t: usize) -> u32
     K[t]
 }
 
-// 4.1.2: three turns of a word, and two turns and a shift.
+// 4.1.2: three rotations of a word, and two rotations and a shift.
 fn big_sigma(i: u32, j: u32, n: u32, x: u32) -> u32
     ensures { λ r. ⌜ r ≡ bigSigma i j n x ⌝ }
 {
