@@ -4,7 +4,7 @@ mod hmac;
 pub use hmac::hmac_sha256;
 ghost use mathlib.Core.Path.{_≡_};
 ghost use Prim.Native.Nat.{_+_, _*_, _%_, _<_, _≤_};
-ghost use lib.ListN.{length, getD};
+ghost use lib.ListN.{length};
 ghost use Rattle.blocks.specs.Blocks.{schedule as words, rounds, absorbed as afterBlocks, closed as closedBy};
 ghost use Rattle.octets.specs.declared.Order.the-variants.{HighestFirst};
 ghost use Rattle.octets.specs.Octets.{wordBE, longestText};
@@ -157,10 +157,11 @@ fn compress(h: State, block: &[u8]) -> State
     ensures { λ r. ⌜ r ≡ compressed h (now (block .entry)) ⌝ }
 {
     let w = schedule(block);
-    let s1 = sixteen(h, &w, 0);
-    let s2 = sixteen(s1, &w, 1);
-    let s3 = sixteen(s2, &w, 2);
-    let s4 = sixteen(s3, &w, 3);
+    let k = K;
+    let s1 = sixteen(h, &w, &k, 0);
+    let s2 = sixteen(s1, &w, &k, 1);
+    let s3 = sixteen(s2, &w, &k, 2);
+    let s4 = sixteen(s3, &w, &k, 3);
     added(h, s4)
 }
 
@@ -202,31 +203,28 @@ fn late_word(w: &[u32; 64], t: usize) -> u32
 }
 
 // Sixteen rounds, from round 16 * q on.
-fn sixteen(s: State, w: &[u32; 64], q: usize) -> State
-    requires { ⌜ q < 4 ⌝ }
+fn sixteen(s: State, w: &[u32; 64], k: &[u32; 64], q: usize) -> State
+    requires { ⌜ (q < 4) × (now k ≡ constants) ⌝ }
     ensures { λ r. ⌜ r ≡ rounds (roundOf (now (w .entry))) (16 * q) 16 s ⌝ }
 {
     let mut x = s;
     let mut i = 0;
     while i < 16 {
-        x = round(x, w, 16 * q + i);
+        x = round(x, w, k, 16 * q + i);
         i += 1;
     }
     x
 }
 
 // Round t.
-fn round(s: State, w: &[u32; 64], t: usize) -> State
-    requires { ⌜ t < 64 ⌝ }
+fn round(s: State, w: &[u32; 64], k: &[u32; 64], t: usize) -> State
+    requires { ⌜ (t < 64) × (now k ≡ constants) ⌝ }
     ensures { λ r. ⌜ r ≡ roundOf (now (w .entry)) t s ⌝ }
 {
     let chosen = (s.e & s.f) ^ (!s.e & s.g);
     let majority = (s.a & s.b) ^ (s.a & s.c) ^ (s.b & s.c);
     let t1 = add(
-        add(
-            add(add(s.h, big_sigma(6, 11, 25, s.e)), chosen),
-            constant(t),
-        ),
+        add(add(add(s.h, big_sigma(6, 11, 25, s.e)), chosen), k[t]),
         w[t],
     );
     let t2 = add(big_sigma(2, 13, 22, s.a), majority);
@@ -240,14 +238,6 @@ fn round(s: State, w: &[u32; 64], t: usize) -> State
         g: s.f,
         h: s.g,
     }
-}
-
-// The constant of round t.
-fn constant(t: usize) -> u32
-    requires { ⌜ t < 64 ⌝ }
-    ensures { λ r. ⌜ r ≡ getD constants t 0 ⌝ }
-{
-    K[t]
 }
 
 // 4.1.2: three rotations of a word, and two rotations and a shift.

@@ -12,17 +12,20 @@ add-requires c κs = search needs
 add-requires-2 : tie.Need-add-requires-2
 add-requires-2 c κs = search needs
 
-constant-requires : tie.Need-constant-requires
-constant-requires c κs = search needs
-
-add-requires-3 : tie.Need-add-requires-3
-add-requires-3 c κs = search needs
-
 mul-add : tie.Need-mul-add
 mul-add c = search needs
 
 element-copy-out-add : tie.Need-element-copy-out-add
 element-copy-out-add c = search needs
+
+add-requires-3 : tie.Need-add-requires-3
+add-requires-3 c κs = search needs
+
+mul-add-2 : tie.Need-mul-add-2
+mul-add-2 c = search needs
+
+element-copy-out-add-2 : tie.Need-element-copy-out-add-2
+element-copy-out-add-2 c = search needs
 
 add-requires-4 : tie.Need-add-requires-4
 add-requires-4 c κs = search needs
@@ -50,10 +53,11 @@ round-spec =
     big-sigma-requires
     add-requires
     add-requires-2
-    constant-requires
-    add-requires-3
     mul-add
     element-copy-out-add
+    add-requires-3
+    mul-add-2
+    element-copy-out-add-2
     add-requires-4
     big-sigma-requires-2
     add-requires-5

@@ -9,10 +9,10 @@ use Rattle.sha256.proofs.sixteen.Statement.{statement}
 use Rattle.sha256.proofs.sixteen.Tie as tie
 
 abbrev Inv-loop : tie.InvT-loop
-Inv-loop w q x₀ i₀ x i = (i ≤ 16) × (x ≡ rounds (round w) (16 * q) i x₀)
+Inv-loop w k q x₀ i₀ x i = (i ≤ 16) × (x ≡ rounds (round w) (16 * q) i x₀)
 
 abbrev μ-loop : tie.MeasureT-loop
-μ-loop w q x₀ i₀ x i = 16 - i
+μ-loop w k q x₀ i₀ x i = 16 - i
 
 loop-holds : tie.Need-loop-holds Inv-loop μ-loop
 loop-holds c = (omega arith, round-none _ _ _)
