@@ -1,23 +1,39 @@
 -- A block's rounds together, and the ways out of the call.
-use mathlib.Core.Path.{_≡_}
+use mathlib.Core.Path.{_≡_, sym, _∙_}
+use mathlib.Core.Bool.{Bool}
 use mathlib.Core.List.{List}
-use Prim.Native.Nat.{ℕ, _≤_, _<_}
-use lib.Dec.{ltb, ltb→lt}
+use Prim.Native.Nat.{ℕ, _+_, _*_, _/_, _%_, _≤_, _<_}
+use native.Mathlib.Omega.{arith}
+use lib.Dec.{T, ltb, eqb, ltb→lt, eqb→eq}
 use lib.ListN.{length, getD}
 use borrow.Author.Tests.{lt-ltb, le-ltb}
 use Rattle.octets.specs.Octets.{longestText}
 use Rattle.octets.specs.declared.Order.the-variants.{LowestFirst}
-use Rattle.octets.proofs.Table.{at}
+use Rattle.octets.proofs.Table.{both, both-left, both-right, at}
+use Rattle.answer.specs.Answer.{pick}
 use Rattle.blocks.specs.Blocks.{rounds, hashed}
 use Rattle.blocks.proofs.Laws.{rounds-add}
 use Rattle.md4.specs.Md4.{places, operation, added, compress, initial, octetsIn, md4, refusal, md4Answer}
 use Rattle.md4.specs.declared.State.{State}
 use Rattle.md4.specs.declared.Digest.{Digest}
 
--- every operation takes one of the sixteen words
-pub place-small : (t : ℕ) → t < 48 → getD places t 0 < 16
-unfolding places
-place-small t h = ltb→lt (getD places t 0) 16 (at (λ x. ltb x 16) places tt t h)
+-- the places of the three rounds, by arithmetic; each is one of the sixteen
+unfoldable pub place : ℕ → ℕ
+place t =
+    let i : ℕ = t % 16 in
+    pick (ltb t 16) i (pick (ltb t 32) (4 * (i % 4) + i / 4) (8 * (i % 2) + 4 * (i / 2 % 2) + 2 * (i / 4 % 2) + i / 8))
+
+right : ℕ → ℕ → Bool
+right t x = both (eqb x (place t)) (ltb x 16)
+
+pub placed : {x : ℕ} (t : ℕ) → x ≡ place t → t < 48 → (x ≡ getD places t 0) × (x < 16)
+unfolding places place right
+placed t e h =
+    let test : T (right t (getD places t 0)) = at right places tt t h in
+    let entry : ℕ = getD places t 0 in
+    let same : entry ≡ place t = eqb→eq entry (place t) (both-left (eqb entry (place t)) (ltb entry 16) test) in
+    let small : entry < 16 = ltb→lt entry 16 (both-right (eqb entry (place t)) (ltb entry 16) test) in
+    (e ∙ sym same, omega arith)
 
 -- three rounds, added to the words before
 pub block-done : {s₁ s₂ s₃ r : State} (s : State) (block : List ℕ) → s₁ ≡ rounds (operation block) 0 16 s → s₂ ≡ rounds (operation block) 16 16 s₁

@@ -1,6 +1,6 @@
 -- MD4, as RFC 1320 defines it.
 use mathlib.Core.List.{List, [], _∷_}
-use Prim.Native.Nat.{ℕ, _+_, _*_, _/_, _%_}
+use Prim.Native.Nat.{ℕ, _*_, _%_}
 use lib.Bits.{bitAnd, bitOr, bitXor}
 use lib.Dec.{ltb}
 use lib.ListN.{length, getD, replicate}
@@ -39,14 +39,9 @@ places =
     0 ∷ 4 ∷ 8 ∷ 12 ∷ 1 ∷ 5 ∷ 9 ∷ 13 ∷ 2 ∷ 6 ∷ 10 ∷ 14 ∷ 3 ∷ 7 ∷ 11 ∷ 15 ∷
     0 ∷ 8 ∷ 4 ∷ 12 ∷ 2 ∷ 10 ∷ 6 ∷ 14 ∷ 1 ∷ 9 ∷ 5 ∷ 13 ∷ 3 ∷ 11 ∷ 7 ∷ 15 ∷ []
 
-unfoldable pub shifts : List ℕ
-shifts =
-    3 ∷ 7 ∷ 11 ∷ 19 ∷
-    3 ∷ 5 ∷ 9 ∷ 13 ∷
-    3 ∷ 9 ∷ 11 ∷ 15 ∷ []
-
-abbrev pub shift : ℕ → ℕ
-shift t = getD shifts (4 * (t / 16) + t % 4) 0
+unfoldable pub shift : ℕ → ℕ
+shift t =
+    getD (pick (ltb t 16) (3 ∷ 7 ∷ 11 ∷ 19 ∷ []) (pick (ltb t 32) (3 ∷ 5 ∷ 9 ∷ 13 ∷ []) (3 ∷ 9 ∷ 11 ∷ 15 ∷ []))) (t % 4) 0
 
 -- operation t, [abcd k s]: a = (a + F(b,c,d) + X[k]) <<< s. The next one is [dabc ..], so the words change their names
 unfoldable pub operation : List ℕ → ℕ → State → State

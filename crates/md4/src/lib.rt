@@ -1,5 +1,6 @@
 // MD4 (RFC 1320) of a lent text.
 ghost use mathlib.Core.Path.{_≡_};
+ghost use mathlib.Core.List.{_∷_, []};
 ghost use Prim.Native.Nat.{_+_, _*_, _<_, _≤_};
 ghost use lib.ListN.{length, getD};
 ghost use Rattle.blocks.specs.Blocks.{rounds, absorbed as afterBlocks, hashed as hashedBy};
@@ -10,61 +11,6 @@ use octets::LONGEST_TEXT;
 use octets::Order;
 use octets::add;
 use octets::rotl;
-
-// Which word of the block each operation takes.
-const PLACES: [usize; 48] = [
-    0,
-    1,
-    2,
-    3,
-    4,
-    5,
-    6,
-    7,
-    8,
-    9,
-    10,
-    11,
-    12,
-    13,
-    14,
-    15,
-    0,
-    4,
-    8,
-    12,
-    1,
-    5,
-    9,
-    13,
-    2,
-    6,
-    10,
-    14,
-    3,
-    7,
-    11,
-    15,
-    0,
-    8,
-    4,
-    12,
-    2,
-    10,
-    6,
-    14,
-    1,
-    9,
-    5,
-    13,
-    3,
-    11,
-    7,
-    15,
-];
-
-// By how many places operations rotate: four after each other, for each round.
-const SHIFTS: [u32; 12] = [3, 7, 11, 19, 3, 5, 9, 13, 3, 9, 11, 15];
 
 // The number answered, and the digest; zeros where it is refused.
 pub struct Digest {
@@ -194,20 +140,49 @@ fn constant(t: usize) -> u32
     0x6ed9eba1
 }
 
-// The word of the block that operation t takes.
+// The word of the block that operation t takes: in order, by columns of four, and with the bits of its number reversed.
 fn place(t: usize) -> usize
     requires { ⌜ t < 48 ⌝ }
     ensures { λ r. ⌜ (r ≡ getD places t 0) × (r < 16) ⌝ }
 {
-    PLACES[t]
+    let i = t % 16;
+    if t < 16 {
+        return i;
+    }
+    if t < 32 {
+        return 4 * (i % 4) + i / 4;
+    }
+    8 * (i % 2) + 4 * (i / 2 % 2) + 2 * (i / 4 % 2) + i / 8
 }
 
 // By how many places operation t rotates.
 fn shift(t: usize) -> u32
-    requires { ⌜ t < 48 ⌝ }
     ensures { λ r. ⌜ r ≡ shiftOf t ⌝ }
 {
-    SHIFTS[4 * (t / 16) + t % 4]
+    if t < 16 {
+        return one_of(t % 4, 3, 7, 11, 19);
+    }
+    if t < 32 {
+        return one_of(t % 4, 3, 5, 9, 13);
+    }
+    one_of(t % 4, 3, 9, 11, 15)
+}
+
+// One of four numbers.
+fn one_of(i: usize, a: u32, b: u32, c: u32, d: u32) -> u32
+    requires { ⌜ i < 4 ⌝ }
+    ensures { λ r. ⌜ r ≡ getD (a ∷ b ∷ c ∷ d ∷ []) i 0 ⌝ }
+{
+    if i == 0 {
+        return a;
+    }
+    if i == 1 {
+        return b;
+    }
+    if i == 2 {
+        return c;
+    }
+    d
 }
 
 // Word i of a block.
