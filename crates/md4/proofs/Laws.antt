@@ -9,7 +9,7 @@ use lib.ListN.{length, getD}
 use borrow.Author.Tests.{lt-ltb, le-ltb}
 use Rattle.octets.specs.Octets.{longestText}
 use Rattle.octets.specs.declared.Order.the-variants.{LowestFirst}
-use Rattle.octets.proofs.Table.{both, both-left, both-right, at}
+use Rattle.octets.proofs.Below.{both, both-left, both-right, below}
 use Rattle.answer.specs.Answer.{pick}
 use Rattle.blocks.specs.Blocks.{rounds, hashed}
 use Rattle.blocks.proofs.Laws.{rounds-add}
@@ -23,14 +23,14 @@ place t =
     let i : ℕ = t % 16 in
     pick (ltb t 16) i (pick (ltb t 32) (4 * (i % 4) + i / 4) (8 * (i % 2) + 4 * (i / 2 % 2) + 2 * (i / 4 % 2) + i / 8))
 
-right : ℕ → ℕ → Bool
-right t x = both (eqb x (place t)) (ltb x 16)
+right : ℕ → Bool
+right t = both (eqb (getD places t 0) (place t)) (ltb (getD places t 0) 16)
 
 pub placed : {x : ℕ} (t : ℕ) → x ≡ place t → t < 48 → (x ≡ getD places t 0) × (x < 16)
 unfolding places place right
 placed t e h =
-    let test : T (right t (getD places t 0)) = at right places tt t h in
     let entry : ℕ = getD places t 0 in
+    let test : T (right t) = below right 48 tt t h in
     let same : entry ≡ place t = eqb→eq entry (place t) (both-left (eqb entry (place t)) (ltb entry 16) test) in
     let small : entry < 16 = ltb→lt entry 16 (both-right (eqb entry (place t)) (ltb entry 16) test) in
     (e ∙ sym same, omega arith)

@@ -51,6 +51,13 @@ pub fn word(a: u8, b: u8, c: u8, d: u8) -> u32
     wide(a) * 16777216 + wide(b) * 65536 + wide(c) * 256 + wide(d)
 }
 
+// An octet as a word.
+pub fn wide(x: u8) -> u32
+    ensures { λ r. ⌜ r ≡ x ⌝ }
+{
+    x as u32
+}
+
 // A number of 64 bits as eight octets.
 pub fn long_octets(order: Order, x: u64) -> [u8; 8]
     ensures { λ r. ⌜ r ≡ octetsOf order 8 x ⌝ }
@@ -116,13 +123,6 @@ fn put_four(octets: [u8; 4], at: usize, out: &mut [u8])
     ensures { λ _. ⌜ now (out .exit) ≡ take at (now (out .entry)) ++ octets ++ drop (at + 4) (now (out .entry)) ⌝ }
 {
     copy(&octets, &mut out[at..]);
-}
-
-// An octet as a word.
-fn wide(x: u8) -> u32
-    ensures { λ r. ⌜ r ≡ x ⌝ }
-{
-    x as u32
 }
 
 // The smaller of two lengths.

@@ -1,0 +1,4 @@
+pub mod Tables
+pub mod Des
+pub mod Held
+pub mod Vectors

@@ -1,0 +1,57 @@
+use borrow.Author.Needs.{needs}
+use Prim.Native.Nat.{_≤_, _-_}
+use Rattle.des_samples.proofs.one_bit_blocks.Statement.{statement}
+use Rattle.des_samples.proofs.one_bit_blocks.Tie as tie
+
+abbrev Inv-loop : tie.InvT-loop
+Inv-loop i₀ t2 t3 i = i ≤ 64
+
+abbrev μ-loop : tie.MeasureT-loop
+μ-loop i₀ t2 t3 i = 64 - i
+
+loop-holds : tie.Need-loop-holds Inv-loop μ-loop
+loop-holds c = search needs
+
+slice-aggregate-answer : tie.Need-slice-aggregate-answer Inv-loop μ-loop
+slice-aggregate-answer c = search needs
+
+slice-aggregate-answer-2 : tie.Need-slice-aggregate-answer-2 Inv-loop μ-loop
+slice-aggregate-answer-2 c = search needs
+
+one-bit-requires : tie.Need-one-bit-requires Inv-loop μ-loop
+one-bit-requires c κs = search needs
+
+slice-aggregate-answer-3 : tie.Need-slice-aggregate-answer-3 Inv-loop μ-loop
+slice-aggregate-answer-3 c = search needs
+
+answer-requires : tie.Need-answer-requires Inv-loop μ-loop
+answer-requires c κs = search needs
+
+add-i : tie.Need-add-i Inv-loop μ-loop
+add-i c = search needs
+
+loop-less : tie.Need-loop-less Inv-loop μ-loop
+loop-less c = search needs
+
+loop-again : tie.Need-loop-again Inv-loop μ-loop
+loop-again c = search needs
+
+returns : tie.Need-returns Inv-loop μ-loop
+returns c = search needs
+
+pub one-bit-blocks-spec : {M : Type 1} → statement M
+one-bit-blocks-spec =
+    tie.close
+    (tie.spec
+    Inv-loop
+    μ-loop
+    loop-holds
+    slice-aggregate-answer
+    slice-aggregate-answer-2
+    one-bit-requires
+    slice-aggregate-answer-3
+    answer-requires
+    add-i
+    loop-less
+    loop-again
+    returns)

@@ -1,0 +1,4 @@
+pub mod Draws
+pub mod Keys
+pub mod Runs
+pub mod Texts

@@ -1,0 +1,27 @@
+-- A key within its limits, one that is too short, one that is too long.
+use mathlib.Core.Path.{ap, sym, _∙_}
+use mathlib.Core.Logic.{⊎-elim}
+use mathlib.Core.List.{List}
+use Prim.Native.Nat.{ℕ}
+use borrow.Author.Tests.{leb-true, leb-false}
+use borrow.Author.Needs.{needs}
+use Rattle.rc4.specs.Cipher.{box, keySchedule}
+use Rattle.rc4.specs.Laws.{keyed-done}
+use Rattle.rc4.proofs.Keys.{too-short, too-long}
+use Rattle.rc4.proofs.Rc4.keyed.Statement.{statement}
+use Rattle.rc4.proofs.Rc4.keyed.Tie as tie
+
+key-schedule-requires : tie.Need-key-schedule-requires
+key-schedule-requires c κs = search needs
+
+returns : tie.Need-returns
+unfolding keySchedule
+returns c =
+    ap (λ (cells : List ℕ). record { answer = 0; state = box cells 0 0 }) (c .key-schedule .ensures)
+    ∙ sym (keyed-done _ (c .before .before .if1 .taken) (leb-true _ _ (c .before .if2 .taken)))
+
+returns-2 : tie.Need-returns-2
+returns-2 c = ⊎-elim (λ w. too-long _ (w .0 .taken) (leb-false _ _ (w .1 .left))) (λ w. too-short _ (w .left)) (c .if1 .came)
+
+pub keyed-spec : {M : Type 1} → statement M
+keyed-spec = tie.close (tie.spec key-schedule-requires returns returns-2)

@@ -1,0 +1,48 @@
+-- What the calls answer (01, "Numbers a call may answer" and "Lengths").
+use mathlib.Core.Bool.{Bool, true}
+use mathlib.Core.List.{List, [], _∷_}
+use Prim.Native.Nat.{ℕ}
+use lib.Dec.{ltb}
+use lib.ListN.{length, replicate}
+use Rattle.answer.specs.Answer.{size, room, pick, firstOf, onDone}
+use Rattle.octets.specs.Octets.{written, longestText}
+use Rattle.rc4.specs.declared.Rc4.{Rc4}
+use Rattle.rc4.specs.declared.Keyed.{Keyed}
+use Rattle.rc4.specs.declared.Drawn.{Drawn}
+use Rattle.rc4.specs.declared.Ran.{Ran}
+use Rattle.rc4.specs.Cipher.{box, keySchedule, step, drawn, run, after}
+
+-- "RC4 key: 1 to 256"
+abbrev pub shortestKey : ℕ
+shortestKey = 1
+
+abbrev pub longestKey : ℕ
+longestKey = 256
+
+-- a length that lies outside its limits
+abbrev pub outside : ℕ → ℕ → ℕ → Bool
+outside low high n = pick (ltb n low) true (ltb high n)
+
+-- the number for a key
+abbrev pub keyCode : List ℕ → ℕ
+keyCode key = firstOf ((size, outside shortestKey longestKey (length key)) ∷ [])
+
+-- a refused key has zeros
+unfoldable pub keyedAnswer : List ℕ → Keyed
+keyedAnswer key = record { answer = keyCode key; state = onDone (keyCode key) (keySchedule key) (box (replicate 256 0) 0 0) }
+
+-- any state draws
+abbrev pub drawAnswer : Rc4 → Drawn
+drawAnswer s = record { octet = drawn s; state = step s }
+
+-- the number for a text and a lent buffer
+abbrev pub runCode : List ℕ → List ℕ → ℕ
+runCode text out = firstOf ((size, ltb longestText (length text)) ∷ (room, ltb (length out) (length text)) ∷ [])
+
+-- a refused text hands back the state given ..
+unfoldable pub runAnswer : Rc4 → List ℕ → List ℕ → Ran
+runAnswer s text out = record { answer = runCode text out; state = onDone (runCode text out) (after s text) s }
+
+-- .. and leaves the lent buffer as it was
+unfoldable pub runOut : Rc4 → List ℕ → List ℕ → List ℕ
+runOut s text out = onDone (runCode text out) (written (run s text) out) out

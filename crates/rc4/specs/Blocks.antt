@@ -1,0 +1,34 @@
+-- What the contracts of the loops over a box in place say beside RC4's own definitions.
+use mathlib.Core.Path.{_≡_}
+use mathlib.Core.List.{List, [], _∷_}
+use Prim.Native.Nat.{ℕ, _+_, _*_, _%_, _^_, _<_, _≤_}
+use lib.Bits.{bitXor}
+use lib.ListN.{length}
+use Rattle.octets.specs.Octets.{written, longestText}
+use Rattle.rc4.specs.declared.Rc4.{Rc4}
+use Rattle.rc4.specs.Cipher.{box, run, after}
+
+-- the state of a box whose indices are carried on without being wrapped mod 256
+abbrev pub wrapped : List ℕ → ℕ → ℕ → Rc4
+wrapped cells i j = box cells (i % 256) (j % 256)
+
+-- two lists, xored octet by octet as far as both go
+abbrev pub xors : List ℕ → List ℕ → List ℕ
+xors [] ys = []
+xors (x ∷ xs) [] = []
+xors (x ∷ xs) (y ∷ ys) = bitXor x y ∷ xors xs ys
+
+-- what a loop over a text asks: a box, indices with room to be carried on, a text within its limit, a buffer with room for it
+pub record Ready (cells : List ℕ) (i j : ℕ) (text out : List ℕ) : Type 0 where
+  pub whole : length cells ≡ 256
+  pub i-near : i < 2 ^ 30
+  pub j-near : j < 2 ^ 30
+  pub within : length text ≤ longestText
+  pub room : length text ≤ length out
+
+-- what it ensures of the box, the next j and the buffer
+pub record Finished (cells : List ℕ) (i j : ℕ) (text out cells′ : List ℕ) (j′ : ℕ) (out′ : List ℕ) : Type 0 where
+  pub wrote : out′ ≡ written (run (wrapped cells i j) text) out
+  pub stepped : wrapped cells′ (i + length text) j′ ≡ after (wrapped cells i j) text
+  pub whole : length cells′ ≡ 256
+  pub near : j′ ≤ j + 255 * length text

@@ -1,0 +1,303 @@
+// RC4: the key schedule, a draw, a run over a text, and a generator lent by reference (01, "Digests, DES and RC4").
+ghost use mathlib.Core.Path.{_≡_};
+ghost use Prim.Native.Nat.{_+_, _%_, _^_, _<_, _≤_};
+ghost use lib.ListN.{length, getD, replicate};
+ghost use Rattle.octets.specs.Octets.{written, longestText};
+ghost use Rattle.rc4.specs.Cipher.{below, swap, rounds, step, drawn, run, after};
+ghost use Rattle.rc4.specs.Answers.{keyedAnswer, drawAnswer, runAnswer, runOut};
+ghost use Rattle.rc4.specs.Blocks.{wrapped, xors, Ready, Finished};
+
+// The shortest key (01, "Lengths").
+pub const SHORTEST_KEY: usize = 1;
+// The longest key.
+pub const LONGEST_KEY: usize = 256;
+
+// The box and both indices. Any octets are a state.
+pub struct Rc4 {
+    pub cells: [u8; 256],
+    pub i: u8,
+    pub j: u8,
+}
+
+// What a key gives.
+pub struct Keyed {
+    pub answer: u8,
+    pub state: Rc4,
+}
+
+// What a draw gives.
+pub struct Drawn {
+    pub octet: u8,
+    pub state: Rc4,
+}
+
+// What a run gives beside the octets that it writes.
+pub struct Ran {
+    pub answer: u8,
+    pub state: Rc4,
+}
+
+impl Rc4 {
+    // The state of a key of 1 to 256 octets.
+    pub fn keyed(key: &[u8]) -> Keyed
+        ensures { λ r. ⌜ r ≡ keyedAnswer (now (key .entry)) ⌝ }
+    {
+        if SHORTEST_KEY <= key.len() && key.len() <= LONGEST_KEY {
+            let cells = key_schedule(key);
+            let state = Rc4 { cells, i: 0, j: 0 };
+            Keyed {
+                answer: answer::DONE,
+                state,
+            }
+        } else {
+            let state = Rc4 {
+                cells: [0u8; 256],
+                i: 0,
+                j: 0,
+            };
+            Keyed {
+                answer: answer::SIZE,
+                state,
+            }
+        }
+    }
+
+    // One draw.
+    pub fn draw(self) -> Drawn
+        ensures { λ r. ⌜ r ≡ drawAnswer self ⌝ }
+    {
+        let mut cells = self.cells;
+        let i = index(self.i);
+        let d = advance(&mut cells, i, index(self.j));
+        let state = Rc4 {
+            cells,
+            i: octet(i + 1),
+            j: octet(d.j),
+        };
+        Drawn {
+            octet: d.octet,
+            state,
+        }
+    }
+
+    // A text of up to 65,535 octets, xored with the draws, into the front of a lent buffer.
+    pub fn run(self, text: &[u8], out: &mut [u8]) -> Ran
+        ensures { λ r. ⌜ (r ≡ runAnswer self (now (text .entry)) (now (out .entry)))
+            × (now (out .exit) ≡ runOut self (now (text .entry)) (now (out .entry))) ⌝ }
+    {
+        if octets::LONGEST_TEXT < text.len() {
+            return Ran {
+                answer: answer::SIZE,
+                state: self,
+            };
+        }
+        if out.len() < text.len() {
+            return Ran {
+                answer: answer::ROOM,
+                state: self,
+            };
+        }
+        let state = run_text(self, text, out);
+        Ran {
+            answer: answer::DONE,
+            state,
+        }
+    }
+}
+
+// The generator lent by reference: advances in place, and returns the octet drawn.
+pub fn draw_next(g: &mut Rc4) -> u8
+    ensures { λ r. ⌜ (r ≡ drawn (now (g .entry))) × (now (g .exit) ≡ step (now (g .entry))) ⌝ }
+{
+    let s = *g;
+    let d = s.draw();
+    *g = d.state;
+    d.octet
+}
+
+// The box of a key after all rounds. j is not wrapped mod 256 between them.
+fn key_schedule(key: &[u8]) -> [u8; 256]
+    requires { ⌜ 1 ≤ length (now key) ⌝ }
+    ensures { λ r. ⌜ r ≡ rounds (now (key .entry)) 256 .cells ⌝ }
+{
+    let mut cells = ascending();
+    let mut place = 0;
+    let mut j = 0;
+    let mut i = 0;
+    while i < 256 {
+        j = mix(&mut cells, i, j, key[place]);
+        place = next_place(place, key.len());
+        i += 1;
+    }
+    cells
+}
+
+// The numbers 0 to 255, in order.
+fn ascending() -> [u8; 256]
+    ensures { λ r. ⌜ r ≡ below 256 ⌝ }
+{
+    let mut cells = [0u8; 256];
+    let mut n = 0;
+    while n < 256 {
+        cells[n] = octet(n);
+        n += 1;
+    }
+    cells
+}
+
+// One round of the key schedule: the next j, and two cells swapped.
+fn mix(cells: &mut [u8; 256], i: usize, j: usize, k: u8) -> usize
+    requires { ⌜ (i < 256) × (j < 2 ^ 32) ⌝ }
+    ensures { λ r. ⌜ (r ≡ j + getD (now (cells .entry)) i 0 + k) × (r ≤ j + 510)
+        × (now (cells .exit) ≡ swap (now (cells .entry)) i (r % 256)) ⌝ }
+{
+    let sum = j + index(cells[i]) + index(k);
+    swap_cells(cells, i, sum % 256);
+    sum
+}
+
+// The place after place k in a key of n octets.
+fn next_place(k: usize, n: usize) -> usize
+    requires { ⌜ k < n ⌝ }
+    ensures { λ r. ⌜ (r ≡ (k + 1) % n) × (r < n) ⌝ }
+{
+    if k + 1 == n { 0 } else { k + 1 }
+}
+
+// A text within its limit, xored with the draws, into a buffer with room for it; the state after it.
+fn run_text(state: Rc4, text: &[u8], out: &mut [u8]) -> Rc4
+    requires { ⌜ (length (now text) ≤ longestText) × (length (now text) ≤ length (now out)) ⌝ }
+    ensures { λ r. ⌜ (r ≡ after state (now (text .entry)))
+        × (now (out .exit) ≡ written (run state (now (text .entry))) (now (out .entry))) ⌝ }
+{
+    let mut cells = state.cells;
+    let i = index(state.i);
+    let m = text.len() - text.len() % 8;
+    let j = run_eights(&mut cells, i, index(state.j), &text[..m], out);
+    let end = run_ones(&mut cells, i + m, j, &text[m..], &mut out[m..]);
+    Rc4 {
+        cells,
+        i: octet(i + text.len()),
+        j: octet(end),
+    }
+}
+
+// A text of whole eights over a box in place; the next j, not wrapped mod 256. i is wrapped after each eight.
+fn run_eights(cells: &mut [u8; 256], i: usize, j: usize, text: &[u8], out: &mut [u8]) -> usize
+    requires { ⌜ Ready (now cells) i j (now text) (now out) × (length (now text) % 8 ≡ 0) ⌝ }
+    ensures { λ r. ⌜ Finished (now (cells .entry)) i j (now (text .entry)) (now (out .entry)) (now (cells .exit)) r (now (out .exit)) ⌝ }
+{
+    let mut at = i;
+    let mut next = j;
+    let mut n = 0;
+    while n < text.len() {
+        let e = draw_eight(cells, at, next);
+        at = (at + 8) % 256;
+        next = e.j;
+        let octets = e.octets;
+        xor_eight(&text[n..n + 8], octets, &mut out[n..n + 8]);
+        n += 8;
+    }
+    next
+}
+
+// Any text, an octet at a time, over a box in place; the next j, not wrapped mod 256.
+fn run_ones(cells: &mut [u8; 256], i: usize, j: usize, text: &[u8], out: &mut [u8]) -> usize
+    requires { ⌜ Ready (now cells) i j (now text) (now out) ⌝ }
+    ensures { λ r. ⌜ Finished (now (cells .entry)) i j (now (text .entry)) (now (out .entry)) (now (cells .exit)) r (now (out .exit)) ⌝ }
+{
+    let mut next = j;
+    let mut n = 0;
+    while n < text.len() {
+        let d = advance(cells, i + n, next);
+        next = d.j;
+        out[n] = text[n] ^ d.octet;
+        n += 1;
+    }
+    next
+}
+
+// Eight octets of keystream, and the next j, not wrapped mod 256.
+struct Eight {
+    octets: [u8; 8],
+    j: usize,
+}
+
+// Eight draws over a box in place: what a text of eight zeros gives.
+fn draw_eight(cells: &mut [u8; 256], i: usize, j: usize) -> Eight
+    requires { ⌜ (length (now cells) ≡ 256) × (i < 2 ^ 31) × (j < 2 ^ 31) ⌝ }
+    ensures { λ r. ⌜ (r .octets ≡ run (wrapped (now (cells .entry)) i j) (replicate 8 0))
+        × (wrapped (now (cells .exit)) (i + 8) (r .j) ≡ after (wrapped (now (cells .entry)) i j) (replicate 8 0))
+        × (length (now (cells .exit)) ≡ 256) × (r .j ≤ j + 2040) ⌝ }
+{
+    let mut octets = [0u8; 8];
+    let mut next = j;
+    let mut k = 0;
+    while k < 8 {
+        let d = advance(cells, i + k, next);
+        octets[k] = d.octet;
+        next = d.j;
+        k += 1;
+    }
+    Eight { octets, j: next }
+}
+
+// Eight octets of text, xored with eight of keystream.
+fn xor_eight(text: &[u8], octets: [u8; 8], out: &mut [u8])
+    requires { ⌜ (length (now text) ≡ 8) × (length (now out) ≡ 8) ⌝ }
+    ensures { λ _. ⌜ now (out .exit) ≡ xors (now (text .entry)) octets ⌝ }
+{
+    let mut k = 0;
+    while k < 8 {
+        out[k] = text[k] ^ octets[k];
+        k += 1;
+    }
+}
+
+// The octet of a draw in place, and the next j, not wrapped mod 256.
+struct Advanced {
+    octet: u8,
+    j: usize,
+}
+
+// One draw over a box in place. j is wrapped mod 256 only to index the box: that keeps the chain from draw to draw short.
+fn advance(cells: &mut [u8; 256], i: usize, j: usize) -> Advanced
+    requires { ⌜ (length (now cells) ≡ 256) × (i < 2 ^ 32) × (j < 2 ^ 32) ⌝ }
+    ensures { λ r. ⌜ (r .octet ≡ drawn (wrapped (now (cells .entry)) i j))
+        × (wrapped (now (cells .exit)) (i + 1) (r .j) ≡ step (wrapped (now (cells .entry)) i j)) × (r .j ≤ j + 255) ⌝ }
+{
+    let a = (i + 1) % 256;
+    let x = index(cells[a]);
+    let sum = j + x;
+    let b = sum % 256;
+    let y = index(cells[b]);
+    swap_cells(cells, a, b);
+    Advanced {
+        octet: cells[(y + x) % 256],
+        j: sum,
+    }
+}
+
+// Two cells change places.
+fn swap_cells(cells: &mut [u8; 256], a: usize, b: usize)
+    requires { ⌜ (a < 256) × (b < 256) ⌝ }
+    ensures { λ _. ⌜ now (cells .exit) ≡ swap (now (cells .entry)) a b ⌝ }
+{
+    let x = cells[a];
+    cells[a] = cells[b];
+    cells[b] = x;
+}
+
+// An octet as an index.
+fn index(x: u8) -> usize
+    ensures { λ r. ⌜ (r ≡ x) × (r < 256) ⌝ }
+{
+    x as usize
+}
+
+// A number mod 256.
+fn octet(x: usize) -> u8
+    ensures { λ r. ⌜ r ≡ x % 256 ⌝ }
+{
+    (x % 256) as u8
+}
