@@ -9,6 +9,8 @@ fn main() {
     digests(text);
     say(b"The 0 in front of each digest is the number answered: done.\n");
     too_long();
+    there_and_back(text);
+    one_block();
 }
 
 // Every digest of a text.
@@ -29,6 +31,30 @@ fn too_long() {
     let text = [0u8; 65536];
     let d = md4::md4(&text);
     report::line(b"  MD4     ", d.answer, &d.octets);
+}
+
+// A text under RC4, and under RC4 with the same key again.
+fn there_and_back(text: &[u8; 20]) {
+    say(b"The text under RC4, and that under RC4 with the same key again:\n");
+    let keyed = rc4::Rc4::keyed(b"sixteen octets .");
+    let state = keyed.state;
+    let mut sealed = [0u8; 20];
+    let there = state.run(text, &mut sealed);
+    report::line(b"  RC4     ", there.answer, &sealed);
+    let mut opened = [0u8; 20];
+    state.run(&sealed, &mut opened);
+    say(b"  text     ");
+    say(&opened);
+    say(b"\n");
+}
+
+// A block under DES, and a key that is refused.
+fn one_block() {
+    say(b"A block under DES, and then with a key of eight octets, which is one too many:\n");
+    let good = des::encrypt(b"7 octet", b"a block.");
+    report::line(b"  DES     ", good.answer, &good.octets);
+    let refused = des::encrypt(b"8 octets", b"a block.");
+    report::line(b"  DES     ", refused.answer, &refused.octets);
 }
 
 // Writes a text to standard output.
