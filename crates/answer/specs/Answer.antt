@@ -2,6 +2,7 @@
 use mathlib.Core.Bool.{Bool, true, false}
 use mathlib.Core.List.{List, [], _∷_}
 use Prim.Native.Nat.{ℕ, zero, suc}
+use lib.Dec.{ltb}
 
 abbrev pub done : ℕ
 done = 0
@@ -37,6 +38,10 @@ domain = 9
 abbrev pub pick : {A : Type 0} → Bool → A → A → A
 pick true a b = a
 pick false a b = b
+
+-- a length that lies outside its limits
+abbrev pub outside : ℕ → ℕ → ℕ → Bool
+outside low high n = pick (ltb n low) true (ltb high n)
 
 -- "Each call gives the first that applies": rows of a number and whether it applies, in the paper's order; 0 where none does
 abbrev pub firstOf : List (ℕ × Bool) → ℕ

@@ -1,27 +1,17 @@
 -- The last blocks of a message, as they are made: the rest of the message in front of zeros, the bit 1, the length.
 use mathlib.Core.Path.{_≡_, refl, sym, ap, _∙_}
 use mathlib.Core.List.{List, [], _∷_, _++_, append-assoc, append-nil}
-use Prim.Native.Nat.{ℕ, zero, suc, _+_, _*_, _-_, _/_, _%_, _≤_}
+use Prim.Native.Nat.{ℕ, suc, _+_, _*_, _-_, _/_, _%_, _≤_}
 use native.Mathlib.Omega.{arith}
 use lib.ListN.{length, take, drop, set, replicate, length-append, length-drop, length-replicate, drop-of-length-le, replicate-append-replicate}
 use lib.Seq.{length-take-le, take-all, take-append-seam, drop-append-seam, set-append-seam}
 use borrow.Rule.Slice.PartMut.{putMid}
 use Rattle.octets.specs.declared.Order.{Order}
 use Rattle.octets.specs.declared.Order.the-variants.{HighestFirst, LowestFirst}
+use Rattle.octets.proofs.Laws.{drop-zeros}
 use Rattle.octets.specs.Octets.{octetsOf, written}
 use Rattle.blocks.specs.declared.Tail.{Tail}
 use Rattle.blocks.specs.Blocks.{tailOf, ending}
-
-pub drop-zeros : (k n : ℕ) → drop {A = ℕ} k (replicate n 0) ≡ replicate (n - k) 0
-drop-zeros zero n =
-    let same : n - 0 ≡ n = omega arith in
-    rw same
-drop-zeros (suc k) zero =
-    let none : 0 - suc k ≡ 0 = omega arith in
-    rw none
-drop-zeros (suc k) (suc n) =
-    let less : suc n - suc k ≡ n - k = omega arith in
-    rw less (drop-zeros k n)
 
 -- w written behind l, where zeros were
 put-behind : (l w : List ℕ) (n : ℕ) → length w ≤ n

@@ -78,6 +78,10 @@ abbrev pub joined : ℕ → List ℕ → ℕ
 joined a [] = a
 joined a (x ∷ xs) = joined (a * 256 + x) xs
 
+-- a block of octets enciphered under a key of octets
+unfoldable pub encrypted : List ℕ → List ℕ → List ℕ
+encrypted key block = bigEndian 8 (enciphered (joined 0 key) (joined 0 block))
+
 -- octets in a key, without parity bits (01, "Lengths")
 abbrev pub keyOctets : ℕ
 keyOctets = 7
@@ -95,6 +99,5 @@ unfoldable pub encryptAnswer : List ℕ → List ℕ → Block
 encryptAnswer key block =
     record {
       answer = encryptNumber key block;
-      octets =
-          onDone (encryptNumber key block) (bigEndian blockOctets (enciphered (joined 0 key) (joined 0 block))) (replicate blockOctets 0);
+      octets = onDone (encryptNumber key block) (encrypted key block) (replicate blockOctets 0);
     }

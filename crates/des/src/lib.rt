@@ -7,13 +7,13 @@ use tables::PC2_C_PARTS;
 use tables::PC2_D_PARTS;
 use tables::S_BOXES;
 ghost use mathlib.Core.Path.{_≡_};
-ghost use mathlib.Core.List.{List, _∷_, [], _++_, map};
+ghost use mathlib.Core.List.{_∷_, [], _++_, map};
 ghost use Prim.Native.Nat.{ℕ, _+_, _-_, _*_, _/_, _%_, _^_, _<_, _≤_};
 ghost use lib.Bits.{bitXor};
 ghost use lib.ListN.{length, getD, replicate};
 ghost use Rattle.answer.specs.Answer.{size};
 ghost use Rattle.octets.specs.Octets.{bigEndian};
-ghost use Rattle.des.specs.Tables.{initial, inverse, expansion, permutation, boxes, choice1C, choice1D, choice2, shifts};
+ghost use Rattle.des.specs.Tables.{initial, inverse, permutation, boxes, choice1C, choice1D, choice2, shifts};
 ghost use Rattle.des.specs.Des.{bit, followed, selected, substitution, cipherFunction, place, leftShift, iteration, iterated, enciphered, joined, blockOctets, encryptAnswer};
 ghost use Rattle.des.specs.Held.{Boxes, Parts, ring};
 

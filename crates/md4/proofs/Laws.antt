@@ -1,5 +1,5 @@
 -- A block's rounds together, and the ways out of the call.
-use mathlib.Core.Path.{_≡_, sym, _∙_}
+use mathlib.Core.Path.{refl, _≡_, sym, _∙_}
 use mathlib.Core.Bool.{Bool}
 use mathlib.Core.List.{List}
 use Prim.Native.Nat.{ℕ, _+_, _*_, _/_, _%_, _≤_, _<_}
@@ -10,7 +10,7 @@ use borrow.Author.Tests.{lt-ltb, le-ltb}
 use Rattle.octets.specs.Octets.{longestText}
 use Rattle.octets.specs.declared.Order.the-variants.{LowestFirst}
 use Rattle.octets.proofs.Below.{both, both-left, both-right, below}
-use Rattle.answer.specs.Answer.{pick}
+use Rattle.answer.specs.Answer.{done, pick}
 use Rattle.blocks.specs.Blocks.{rounds, hashed}
 use Rattle.blocks.proofs.Laws.{rounds-add}
 use Rattle.md4.specs.Md4.{places, operation, added, compress, initial, octetsIn, md4, refusal, md4Answer}
@@ -42,12 +42,21 @@ unfolding compress
 block-done s block e₁ e₂ e₃ er =
     rw (er, e₃, e₂, e₁, rounds-add (operation block) 0 16 16 s, rounds-add (operation block) 0 32 16 s)
 
+-- what callers cite: a text within the limit is answered with its digest, of 16 octets
+pub md4-done : (m : List ℕ) → length m ≤ longestText → md4Answer m ≡ record { answer = done; octets = md4 m }
+unfolding md4Answer
+md4-done m h = rw (le-ltb longestText (length m) h)
+
+pub length-md4 : (m : List ℕ) → length (md4 m) ≡ 16
+unfolding md4
+length-md4 m = refl
+
 -- the two ways out of the call
 pub too-long : (m : List ℕ) → longestText < length m → refusal ≡ md4Answer m
 unfolding md4Answer
 too-long m h = rw (lt-ltb longestText (length m) h)
 
 pub digested : {h : State} {o : List ℕ} (m : List ℕ) → h ≡ hashed compress LowestFirst initial m → o ≡ octetsIn h → length m ≤ longestText
-    → _≡_ {A = Digest} (record { answer = 0; octets = o }) (md4Answer m)
-unfolding md4Answer md4
-digested m eh eo h = rw (eo, eh, le-ltb longestText (length m) h)
+    → _≡_ {A = Digest} (record { answer = done; octets = o }) (md4Answer m)
+unfolding md4
+digested m eh eo h = rw (md4-done m h, eo, eh)

@@ -1,16 +1,16 @@
 -- What the proofs of this crate cite: a rotation by no place, a copy one octet longer, a part of a buffer written, words written one after the other.
 use mathlib.Core.Path.{_≡_, refl, sym, ap, _∙_}
 use mathlib.Core.List.{List, [], _∷_, _++_, append-assoc, append-nil, reverse}
-use Prim.Native.Nat.{ℕ, suc, _+_, _*_, _-_, _/_, _%_, _^_, _≤_, _<_, min}
+use Prim.Native.Nat.{ℕ, zero, suc, _+_, _*_, _-_, _/_, _%_, _^_, _≤_, _<_, min}
 use native.Mathlib.Numerals.{add-one}
 use native.Mathlib.Decide.{decLe}
 use native.Mathlib.Omega.{arith}
 use lib.Bits.{or-zero-r}
-use lib.ListN.{length, take, drop, getD, set, replicate, length-append, length-drop, drop-of-length-le}
-use lib.Seq.{length-take-le, drop-cons, take-suc, set-at, take-all, take-at, drop-at, take-length, drop-drop}
+use lib.ListN.{length, take, drop, getD, set, replicate, length-append, length-drop, drop-of-length-le, length-replicate}
+use lib.Seq.{length-take-le, drop-cons, take-suc, set-at, take-all, take-at, drop-at, take-length, drop-drop, take-append-seam, drop-append-add}
 use borrow.Author.Tests.{le-leb, lt-leb}
 use borrow.Rule.Slice.PartMut.{putMid}
-use Rattle.octets.specs.Octets.{bigEndian, written, octetsOf, wordsOf, writtenIfRoom}
+use Rattle.octets.specs.Octets.{bigEndian, written, writtenAt, octetsOf, wordsOf, writtenIfRoom}
 use Rattle.octets.specs.declared.Order.{Order}
 use Rattle.octets.specs.declared.Order.the-variants.{HighestFirst, LowestFirst}
 use Rattle.octets.specs.Words.{rotl, rotr}
@@ -70,14 +70,25 @@ copy-all {to} from to₀ n e h = e ∙ rw same
             rw all
         go (no p) = take-all n from (omega arith) ∙ sym (take-all (length to₀) from (omega arith))
 
--- a result of k octets written into a part of a buffer that has room for it
-pub put-part : {k : ℕ} (at : ℕ) (q out : List ℕ) {p ys : List ℕ} → length q ≡ k → p ≡ take (length out - at) (drop at out)
-    → ys ≡ written (take (length p) q) p → at + k ≤ length out → putMid at (length out - at) out ys ≡ take at out ++ q ++ drop (at + k) out
-put-part at q out lq ep ey h =
+-- a copy into the part of a buffer from a place on
+pub copy-part : (at : ℕ) (q out : List ℕ) {p ys : List ℕ} → p ≡ take (length out - at) (drop at out) → ys ≡ written (take (length p) q) p
+    → at ≤ length out → putMid at (length out - at) out ys ≡ writtenAt at (take (length out - at) q) out
+copy-part at q out ep ey h =
     let whole : length (drop at out) ≡ length out - at = length-drop at out in
     let p : take (length out - at) (drop at out) ≡ drop at out = take-all (length out - at) (drop at out) (omega arith) in
     let none : drop (length out - at) (drop at out) ≡ [] = drop-of-length-le (drop at out) {i = length out - at} (omega arith) in
-    rw (ey, ep, p, take-all (length (drop at out)) q (omega arith), none, lq, drop-drop, append-nil, append-assoc)
+    rw (ey, ep, p, none, whole, append-nil)
+
+-- a place behind the buffer
+pub copy-behind : (at : ℕ) (q out : List ℕ) → length out < at → out ≡ writtenAt at (take (length out - at) q) out
+copy-behind at q out h =
+    let none : length out - at ≡ 0 = omega arith in
+    rw (none, take-all at out (omega arith), drop-of-length-le out {i = at} (omega arith), append-nil)
+
+-- a copy that has room
+pub copy-fits : (at : ℕ) (q out : List ℕ) → at + length q ≤ length out
+    → writtenAt at (take (length out - at) q) out ≡ take at out ++ q ++ drop (at + length q) out
+copy-fits at q out h = rw (take-all (length out - at) q (omega arith), drop-drop, append-assoc)
 
 -- a word is four octets, in either order
 length-octets : (order : Order) (w : ℕ) → length (octetsOf order 4 w) ≡ 4
@@ -94,12 +105,15 @@ words-snoc order (v ∷ ws) w = rw (words-snoc order ws w, append-assoc)
 
 -- one word more is written
 pub words-more : {out out′ q : List ℕ} (order : Order) (ws out₀ : List ℕ) (i : ℕ) → out ≡ written (wordsOf order (take i ws)) out₀
-    → q ≡ octetsOf order 4 (getD ws i 0) → out′ ≡ take (4 * i) out ++ q ++ drop (4 * i + 4) out → i < length ws
+    → q ≡ octetsOf order 4 (getD ws i 0) → out′ ≡ writtenAt (4 * i) (take (length out - 4 * i) q) out → i < length ws → 4 * length ws ≤ length out
     → out′ ≡ written (wordsOf order (take (i + 1) ws)) out₀
-words-more order ws out₀ i e eq e′ h =
-    let l : length (wordsOf order (take i ws)) ≡ 4 * i = length-words order (take i ws) ∙ ap (λ (n : ℕ). 4 * n) (length-take-le i ws (omega arith)) in
-    rw
-    (e′, e, eq, add-one, take-suc ws i 0 h, words-snoc, l, take-at (wordsOf order (take i ws)) (drop (4 * i) out₀) (4 * i) l, ← drop-drop 4 (4 * i), drop-at (wordsOf order (take i ws)) (drop (4 * i) out₀) (4 * i) l, length-append, l, length-octets, drop-drop)
+words-more {out} {out′} {q} order ws out₀ i e eq e′ h room =
+    let w : List ℕ = wordsOf order (take i ws) in
+    let l : length w ≡ 4 * i = length-words order (take i ws) ∙ ap (λ (n : ℕ). 4 * n) (length-take-le i ws (omega arith)) in
+    let lq : length q ≡ 4 = ap length eq ∙ length-octets order (getD ws i 0) in
+    e′ ∙ copy-fits (4 * i) q out (omega arith)
+    ∙ rw
+    (lq, e, eq, add-one, take-suc ws i 0 h, words-snoc, l, take-at w (drop (4 * i) out₀) (4 * i) l, ← drop-drop 4 (4 * i), drop-at w (drop (4 * i) out₀) (4 * i) l, length-append, l, length-octets, drop-drop)
 
 -- the whole result is written where it has room
 pub words-all : {out : List ℕ} (order : Order) (ws out₀ : List ℕ) (i : ℕ) → out ≡ written (wordsOf order (take i ws)) out₀ → i ≡ length ws
@@ -118,3 +132,23 @@ long-high x e h = rw e ((rw e at h) ∙ eight x)
 pub long-low : {order : Order} {out : List ℕ} (x : ℕ) → order ≡ LowestFirst
     → out ≡ writtenIfRoom (wordsOf order (x % 4294967296 ∷ x / 4294967296 ∷ [])) (replicate 8 0) → out ≡ octetsOf order 8 x
 long-low x e h = rw e ((rw e at h) ∙ ap reverse (eight x))
+
+-- zeros without the first k
+pub drop-zeros : (k n : ℕ) → drop {A = ℕ} k (replicate n 0) ≡ replicate (n - k) 0
+drop-zeros zero n =
+    let same : n - 0 ≡ n = omega arith in
+    rw same
+drop-zeros (suc k) zero =
+    let none : 0 - suc k ≡ 0 = omega arith in
+    rw none
+drop-zeros (suc k) (suc n) =
+    let less : suc n - suc k ≡ n - k = omega arith in
+    rw less (drop-zeros k n)
+
+-- octets copied behind others that stand in front of zeros
+pub append-more : {b b′ : List ℕ} (l q : List ℕ) (at n : ℕ) → b ≡ l ++ replicate n 0 → b′ ≡ writtenAt at (take (length b - at) q) b → at ≡ length l
+    → length q ≤ n → b′ ≡ (l ++ q) ++ replicate (n - length q) 0
+append-more {b} {b′} l q at n e e′ ea h =
+    let lb : length b ≡ length l + n = ap length e ∙ length-append l (replicate n 0) ∙ rw (length-replicate {A = ℕ} n 0) in
+    e′ ∙ copy-fits at q b (omega arith)
+    ∙ rw (e, ea, take-append-seam, drop-append-add l (replicate n 0) (length q), drop-zeros)

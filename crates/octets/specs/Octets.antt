@@ -1,7 +1,7 @@
 -- Octets: numbers as octets in either order, and results written into a lent buffer.
 use mathlib.Core.List.{List, [], _∷_, _++_, reverse}
 use Prim.Native.Nat.{ℕ, zero, suc, _+_, _*_, _/_, _%_, _^_}
-use lib.ListN.{length, drop, getD}
+use lib.ListN.{length, take, drop, getD}
 use lib.Dec.{leb}
 use Rattle.answer.specs.Answer.{pick}
 use Rattle.octets.specs.declared.Order.{Order}
@@ -38,7 +38,11 @@ wordLE b i = getD b (i + 3) 0 * 2 ^ 24 + getD b (i + 2) 0 * 2 ^ 16 + getD b (i +
 abbrev pub written : List ℕ → List ℕ → List ℕ
 written result buffer = result ++ drop (length result) buffer
 
--- the same where the result has room, and otherwise the buffer as it was
+-- a lent buffer with a result from a place on, and the rest as it was
+abbrev pub writtenAt : ℕ → List ℕ → List ℕ → List ℕ
+writtenAt at result buffer = take at buffer ++ written result (drop at buffer)
+
+-- the first where the result has room, and otherwise the buffer as it was
 abbrev pub writtenIfRoom : List ℕ → List ℕ → List ℕ
 writtenIfRoom result buffer = pick (leb (length result) (length buffer)) (written result buffer) buffer
 

@@ -1,9 +1,8 @@
 // Words of 32 bits and octets: sums and rotations of words, words as octets and back, copying.
 ghost use mathlib.Core.Path.{_≡_};
-ghost use mathlib.Core.List.{_++_};
-ghost use Prim.Native.Nat.{_+_, _*_, _^_, _≤_, min};
-ghost use lib.ListN.{length, take, drop};
-ghost use Rattle.octets.specs.Octets.{octetsOf, wordsOf, written, writtenIfRoom};
+ghost use Prim.Native.Nat.{_+_, _-_, _*_, _^_, min};
+ghost use lib.ListN.{length, take};
+ghost use Rattle.octets.specs.Octets.{octetsOf, wordsOf, written, writtenAt, writtenIfRoom};
 ghost use Rattle.octets.specs.Words.{_⊞_, rotl as rotatedLeft, rotr as rotatedRight};
 
 // The longest text of a digest, an HMAC or RC4, and the longest key of an HMAC (01, "Lengths").
@@ -86,7 +85,7 @@ pub fn put_words(order: Order, words: &[u32], out: &mut [u8])
     let mut i = 0;
     while i < words.len() {
         let octets = word_octets(order, words[i]);
-        put_four(octets, 4 * i, out);
+        copy_at(&octets, 4 * i, out);
         i += 1;
     }
 }
@@ -103,6 +102,16 @@ pub fn copy(from: &[u8], to: &mut [u8])
     }
 }
 
+// The same from a place of the buffer on.
+pub fn copy_at(from: &[u8], at: usize, to: &mut [u8])
+    ensures { λ _. ⌜ now (to .exit) ≡ writtenAt at (take (length (now (to .entry)) - at) (now (from .entry))) (now (to .entry)) ⌝ }
+{
+    if to.len() < at {
+        return;
+    }
+    copy(from, &mut to[at..]);
+}
+
 // A word as four octets.
 fn word_octets(order: Order, x: u32) -> [u8; 4]
     ensures { λ r. ⌜ r ≡ octetsOf order 4 x ⌝ }
@@ -115,14 +124,6 @@ fn word_octets(order: Order, x: u32) -> [u8; 4]
         Order::HighestFirst => [a, b, c, d],
         Order::LowestFirst => [d, c, b, a],
     }
-}
-
-// Writes four octets into a buffer.
-fn put_four(octets: [u8; 4], at: usize, out: &mut [u8])
-    requires { ⌜ at + 4 ≤ length (now out) ⌝ }
-    ensures { λ _. ⌜ now (out .exit) ≡ take at (now (out .entry)) ++ octets ++ drop (at + 4) (now (out .entry)) ⌝ }
-{
-    copy(&octets, &mut out[at..]);
 }
 
 // The smaller of two lengths.

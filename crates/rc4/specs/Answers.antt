@@ -1,10 +1,9 @@
 -- What the calls answer (01, "Numbers a call may answer" and "Lengths").
-use mathlib.Core.Bool.{Bool, true}
 use mathlib.Core.List.{List, [], _∷_}
 use Prim.Native.Nat.{ℕ}
 use lib.Dec.{ltb}
 use lib.ListN.{length, replicate}
-use Rattle.answer.specs.Answer.{size, room, pick, firstOf, onDone}
+use Rattle.answer.specs.Answer.{size, room, outside, firstOf, onDone}
 use Rattle.octets.specs.Octets.{written, longestText}
 use Rattle.rc4.specs.declared.Rc4.{Rc4}
 use Rattle.rc4.specs.declared.Keyed.{Keyed}
@@ -18,10 +17,6 @@ shortestKey = 1
 
 abbrev pub longestKey : ℕ
 longestKey = 256
-
--- a length that lies outside its limits
-abbrev pub outside : ℕ → ℕ → ℕ → Bool
-outside low high n = pick (ltb n low) true (ltb high n)
 
 -- the number for a key
 abbrev pub keyCode : List ℕ → ℕ

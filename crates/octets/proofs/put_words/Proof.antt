@@ -1,4 +1,4 @@
-use mathlib.Core.Path.{_∙_, _≡_, refl}
+use mathlib.Core.Path.{_≡_, refl, _∙_}
 use Prim.Native.Nat.{_≤_, _-_, _*_}
 use native.Mathlib.Omega.{arith}
 use lib.ListN.{length, take}
@@ -30,11 +30,14 @@ shared-slice-read-word-octets c = search needs
 word-octets-requires : tie.Need-word-octets-requires Inv-loop μ-loop
 word-octets-requires c κs = search needs
 
-mul-put-four : tie.Need-mul-put-four Inv-loop μ-loop
-mul-put-four c = search needs
+slice-aggregate-copy-at : tie.Need-slice-aggregate-copy-at Inv-loop μ-loop
+slice-aggregate-copy-at c = search needs
 
-put-four-requires : tie.Need-put-four-requires Inv-loop μ-loop
-put-four-requires c κs = search needs
+mul-copy-at : tie.Need-mul-copy-at Inv-loop μ-loop
+mul-copy-at c = search needs
+
+copy-at-requires : tie.Need-copy-at-requires Inv-loop μ-loop
+copy-at-requires c κs = search needs
 
 add-i : tie.Need-add-i Inv-loop μ-loop
 add-i c = search needs
@@ -43,11 +46,11 @@ loop-less : tie.Need-loop-less Inv-loop μ-loop
 loop-less c = search needs
 
 loop-again : tie.Need-loop-again Inv-loop μ-loop
-loop-again c = let l = c .before .before .before .before .before .before .before .loop in (
+loop-again c = let l = c .before .before .before .before .before .before .before .before .loop in (
   l .inv .0,
-  c .before .before .put-four .kept .1 .1 .0 ∙ l .inv .1,
+  c .before .before .copy-at .kept .1 .1 .0 ∙ l .inv .1,
   omega arith,
-  words-more _ _ _ (l .i) (l .inv .3) (c .before .before .before .before .word-octets .ensures) (c .before .before .put-four .ensures) (omega arith),
+  words-more _ _ _ (l .i) (l .inv .3) (c .before .before .before .before .before .word-octets .ensures) (c .before .before .copy-at .ensures) (omega arith) (omega arith),
 )
 
 same-length : tie.Need-same-length Inv-loop μ-loop
@@ -69,8 +72,9 @@ put-words-spec =
     mul-word-octets
     shared-slice-read-word-octets
     word-octets-requires
-    mul-put-four
-    put-four-requires
+    slice-aggregate-copy-at
+    mul-copy-at
+    copy-at-requires
     add-i
     loop-less
     loop-again
