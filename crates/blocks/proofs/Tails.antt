@@ -1,25 +1,16 @@
 -- The last blocks of a message, as they are made: the rest of the message in front of zeros, the bit 1, the length.
 use mathlib.Core.Path.{_≡_, refl, sym, ap, _∙_}
-use mathlib.Core.List.{List, [], _∷_, _++_, append-assoc, append-nil}
+use mathlib.Core.List.{List, _∷_, _++_, append-assoc}
 use Prim.Native.Nat.{ℕ, suc, _+_, _*_, _-_, _/_, _%_, _≤_}
 use native.Mathlib.Omega.{arith}
-use lib.ListN.{length, take, drop, set, replicate, length-append, length-drop, length-replicate, drop-of-length-le, replicate-append-replicate}
-use lib.Seq.{length-take-le, take-all, take-append-seam, drop-append-seam, set-append-seam}
-use borrow.Rule.Slice.PartMut.{putMid}
+use lib.ListN.{length, take, drop, set, replicate, length-append, length-drop, length-replicate, replicate-append-replicate}
+use lib.Seq.{length-take-le, take-all, set-append-seam}
 use Rattle.octets.specs.declared.Order.{Order}
 use Rattle.octets.specs.declared.Order.the-variants.{HighestFirst, LowestFirst}
-use Rattle.octets.proofs.Laws.{drop-zeros}
-use Rattle.octets.specs.Octets.{octetsOf, written}
+use Rattle.octets.proofs.Laws.{drop-zeros, append-more}
+use Rattle.octets.specs.Octets.{octetsOf, written, writtenAt}
 use Rattle.blocks.specs.declared.Tail.{Tail}
 use Rattle.blocks.specs.Blocks.{tailOf, ending}
-
--- w written behind l, where zeros were
-put-behind : (l w : List ℕ) (n : ℕ) → length w ≤ n
-    → putMid (length l) n (l ++ replicate n 0) (written w (replicate n 0)) ≡ l ++ w ++ replicate (n - length w) 0
-put-behind l w n h =
-    let none : drop n (replicate {A = ℕ} n 0) ≡ [] = drop-of-length-le (replicate n 0) {i = n} (omega (arith, length-replicate {A = ℕ} n 0)) in
-    rw
-    (take-append-seam, drop-append-seam, none, drop-zeros, append-nil, append-assoc)
 
 length-field : (order : Order) (x : ℕ) → length (octetsOf order 8 x) ≡ 8
 length-field HighestFirst x = refl
@@ -34,19 +25,16 @@ mark : (r : List ℕ) (z n : ℕ) → set (r ++ replicate (suc (z + n)) 0) (leng
 mark r z n =
     rw (← replicate-append-replicate {A = ℕ} z n 0, set-append-seam r 0 (replicate z 0 ++ replicate n 0) 0x80, append-assoc)
 
--- the buffer after the rest r of a message is copied into zeros, the bit 1 set behind it, and the length w put at `at`
-put-ending : {b p d : List ℕ} (r w : List ℕ) (z n : ℕ) → b ≡ written (take 128 r) (replicate 128 0)
-    → p ≡ take n (drop (length r + 1 + z) (set b (length r) 0x80)) → d ≡ written (take (length p) w) p
-    → length r + 1 + z + n ≡ 128 → length w ≤ n
-    → putMid (length r + 1 + z) n (set b (length r) 0x80) d ≡ (r ++ (0x80 ∷ replicate z 0 ++ w)) ++ replicate (n - length w) 0
-put-ending {b} r w z n eb ep ed h hw =
+-- the buffer after the rest r of a message is copied into zeros, the bit 1 set behind it, and the length w copied to `at`
+put-ending : {b d : List ℕ} (r w : List ℕ) (z n at : ℕ) → b ≡ written (take 128 r) (replicate 128 0)
+    → d ≡ writtenAt at (take (length (set b (length r) 0x80) - at) w) (set b (length r) 0x80) → at ≡ length r + 1 + z
+    → length r + 1 + z + n ≡ 128 → length w ≤ n → d ≡ (r ++ (0x80 ∷ replicate z 0 ++ w)) ++ replicate (n - length w) 0
+put-ending {b} r w z n at eb ed ea h hw =
     let l : List ℕ = r ++ 0x80 ∷ replicate z 0 in
     let ll : length r + 1 + z ≡ length l = rw (length-append, length-replicate) (omega arith) in
     let left : 128 - length r ≡ suc (z + n) = omega arith in
     let marked : set b (length r) 0x80 ≡ l ++ replicate n 0 = rw (eb, take-all 128 r (omega arith), drop-zeros, left) (mark r z n) in
-    let zeros : take n (drop (length l) (l ++ replicate n 0)) ≡ replicate n 0 =
-    rw drop-append-seam (take-all n (replicate n 0) (omega (arith, length-replicate {A = ℕ} n 0))) in
-    rw (ed, ep, marked, ll, zeros, length-replicate, take-all n w hw) (put-behind l w n hw ∙ simp append-assoc)
+    append-more l w at n marked ed (ea ∙ ll) hw ∙ simp append-assoc
 
 -- the arithmetic of it
 before : (n : ℕ) → n - n % 64 ≡ 64 * (n / 64)
@@ -68,13 +56,13 @@ left : (q z : ℕ) → 128 - (q + 1 + z) - 8 ≡ 128 - (q + 9 + z)
 left q z = omega arith
 
 -- the buffer that the code makes of a message is its last blocks
-pub tail-is : {b p w d : List ℕ} (order : Order) (m : List ℕ) (bits rest from at len : ℕ)
+pub tail-is : {b w d : List ℕ} (order : Order) (m : List ℕ) (bits rest from at len : ℕ)
     → b ≡ written (take 128 (take (length m - from) (drop from m))) (replicate 128 0) → w ≡ octetsOf order 8 bits
-    → p ≡ take (128 - at) (drop at (set b rest 0x80)) → d ≡ written (take (length p) w) p
+    → d ≡ writtenAt at (take (length (set b rest 0x80) - at) w) (set b rest 0x80)
     → rest ≡ length m % 64 → from ≡ length m - rest → at ≡ rest + 1 + (119 - rest) % 64 → len ≡ at + 8
-    → _≡_ {A = Tail} (record { octets = putMid at (128 - at) (set b rest 0x80) d; len = len }) (tailOf order m bits)
+    → _≡_ {A = Tail} (record { octets = d; len = len }) (tailOf order m bits)
 unfolding tailOf
-tail-is {b} {p} {w} {d} order m bits rest from at len eb ew ep ed er ef ea el =
+tail-is {b} {w} {d} order m bits rest from at len eb ew ed er ef ea el =
     let r : List ℕ = drop (64 * (length m / 64)) m in
     let z : ℕ = (119 - length m % 64) % 64 in
     let start : from ≡ 64 * (length m / 64) = ef ∙ rw er (before (length m)) in
@@ -88,8 +76,8 @@ tail-is {b} {p} {w} {d} order m bits rest from at len eb ew ep ed er ef ea el =
     let zeros : 128 - (length r + 1 + z) - length w ≡ 128 - length (ending order m bits) = rw (lr′, lw, le) (left (length m % 64) z) in
     let len′ : len ≡ length (ending order m bits) = el ∙ rw (ea, er, le) (omega arith) in
     let eb′ : b ≡ written (take 128 r) (replicate 128 0) = eb ∙ rw (start, take-all (length m - 64 * (length m / 64)) r (omega arith)) in
-    let octets : putMid at (128 - at) (set b rest 0x80) d ≡ ending order m bits ++ replicate (128 - length (ending order m bits)) 0 =
-    rw (ea′, er′) (put-ending r w z (128 - (length r + 1 + z)) eb′ (rw (ea′, er′) at ep) ed (whole _ fits) (rw lw (room _ fits)) ∙ rw (zeros, ew)) in
+    let octets : d ≡ ending order m bits ++ replicate (128 - length (ending order m bits)) 0 =
+    put-ending r w z (128 - (length r + 1 + z)) at eb′ (rw er′ at ed) ea′ (whole _ fits) (rw lw (room _ fits)) ∙ rw (zeros, ew) in
     rw (octets, len′)
 
 -- they are within their buffer

@@ -21,7 +21,7 @@ pub fn padded_tail(order: Order, m: &[u8], bits: u64) -> Tail
     octets::copy(&m[from..], &mut buffer);
     buffer[rest] = 0x80;
     let field = octets::long_octets(order, bits);
-    octets::copy(&field, &mut buffer[at..]);
+    octets::copy_at(&field, at, &mut buffer);
     Tail {
         octets: buffer,
         len: len,

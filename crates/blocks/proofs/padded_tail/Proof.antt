@@ -1,7 +1,7 @@
-use mathlib.Core.Path.{_≡_, refl}
+use mathlib.Core.Path.{refl}
 use Prim.Native.Nat.{_+_, _-_, _%_}
 use native.Mathlib.Omega.{arith}
-use lib.ListN.{length, length-set}
+use lib.ListN.{length}
 use denote.Ref.{now}
 use borrow.Author.Needs.{needs}
 use Rattle.blocks.proofs.Tails.{tail-is}
@@ -44,28 +44,21 @@ array-write-buffer c = search needs
 long-octets-requires : tie.Need-long-octets-requires
 long-octets-requires c κs = search needs
 
-slice-aggregate-copy-2 : tie.Need-slice-aggregate-copy-2
-slice-aggregate-copy-2 c = search needs
+slice-aggregate-copy-at : tie.Need-slice-aggregate-copy-at
+slice-aggregate-copy-at c = search needs
 
-sub-copy-2 : tie.Need-sub-copy-2
-sub-copy-2 c = search needs
+slice-aggregate-copy-at-2 : tie.Need-slice-aggregate-copy-at-2
+slice-aggregate-copy-at-2 c = search needs
 
-part-buffer-start : tie.Need-part-buffer-start
-part-buffer-start c = search needs
-
-part-buffer-end : tie.Need-part-buffer-end
-part-buffer-end c = let l : length (c .before .before .before .copy .last .1 .0) ≡ 128 = c .before .before .before .copy .kept .1 .0 in
-    simp length-set (omega arith)
-
-copy-requires-2 : tie.Need-copy-requires-2
-copy-requires-2 c κs = search needs
+copy-at-requires : tie.Need-copy-at-requires
+copy-at-requires c κs = search needs
 
 returns : tie.Need-returns
 returns c = let a = c .before .before .before .before .before .before .before .before .before .before .args in
     let m = now (a .m) in
     let rest = length m % 64 in
     let len = rest + 9 + (119 - rest) % 64 in
-    tail-is (a .order) m (a .bits) rest (length m - rest) (len - 8) len (c .before .before .before .before .before .before .copy .ensures) (c .before .before .before .before .long-octets .ensures) refl (c .before .copy2 .ensures) refl refl (omega arith) (omega arith)
+    tail-is (a .order) m (a .bits) rest (length m - rest) (len - 8) len (c .before .before .before .before .before .before .copy .ensures) (c .before .before .before .before .long-octets .ensures) (c .before .copy-at .ensures) refl refl (omega arith) (omega arith)
 
 pub padded-tail-spec : {M : Type 1} → statement M
 padded-tail-spec =
@@ -83,9 +76,7 @@ padded-tail-spec =
     copy-requires
     array-write-buffer
     long-octets-requires
-    slice-aggregate-copy-2
-    sub-copy-2
-    part-buffer-start
-    part-buffer-end
-    copy-requires-2
+    slice-aggregate-copy-at
+    slice-aggregate-copy-at-2
+    copy-at-requires
     returns)
