@@ -1,6 +1,7 @@
 // A short demonstration of what stands.
 use libc::STDOUT_FILENO;
 
+// Says what it does, in words.
 fn main() {
     let text = b"pump 4: level 3.20 m";
     say(b"A text and its digests:\n  text     ");

@@ -5,6 +5,7 @@ use report::numbered;
 // A text that no digest takes: one octet beyond the limit.
 const TOO_LONG: usize = 65536;
 
+// Every sample, one after the other.
 fn main() {
     rfc1320(b"");
     rfc1320(b"a");

@@ -240,13 +240,14 @@ fn round(s: State, w: &[u32; 64], k: &[u32; 64], t: usize) -> State
     }
 }
 
-// 4.1.2: three rotations of a word, and two rotations and a shift.
+// 4.1.2: Σ, three rotations of a word.
 fn big_sigma(i: u32, j: u32, n: u32, x: u32) -> u32
     ensures { λ r. ⌜ r ≡ bigSigma i j n x ⌝ }
 {
     rotr(x, i) ^ rotr(x, j) ^ rotr(x, n)
 }
 
+// 4.1.2: σ, two rotations and a shift.
 fn small_sigma(i: u32, j: u32, n: u32, x: u32) -> u32
     requires { ⌜ n < 32 ⌝ }
     ensures { λ r. ⌜ r ≡ smallSigma i j n x ⌝ }
