@@ -1,5 +1,6 @@
 // A short demonstration of what stands.
 use libc::STDOUT_FILENO;
+use mppe_keys::Strength;
 
 // Says what it does, in words.
 fn main() {
@@ -12,6 +13,8 @@ fn main() {
     too_long();
     there_and_back(text);
     one_block();
+    session_keys();
+    option_reply();
 }
 
 // Every digest of a text.
@@ -56,6 +59,46 @@ fn one_block() {
     report::line(b"  DES     ", good.answer, &good.octets);
     let refused = des::encrypt(b"8 octets", b"a block.");
     report::line(b"  DES     ", refused.answer, &refused.octets);
+}
+
+// The session keys that a start key gives.
+fn session_keys() {
+    say(b"A start key of 128 bits gives a first session key, and each packet the next one:\n");
+    let start = b"sixteen octets .";
+    let first = mppe_keys::initial_session_key(Strength::Bits128, start);
+    report::line(b"  first   ", first.answer, &first.octets);
+    let key = first.octets;
+    let next = mppe_keys::key_change(Strength::Bits128, start, &key);
+    report::line(b"  next    ", next.answer, &next.octets);
+    let later = mppe_keys::key_changes(Strength::Bits128, start, &key, 4095);
+    report::line(b"  4,095th ", later.answer, &later.octets);
+}
+
+// A request for MPPE that offers every strength, where all are allowed.
+fn option_reply() {
+    let all = ccp::Strengths {
+        bits40: true,
+        bits56: true,
+        bits128: true,
+    };
+    match ccp::reply_to(b"\x12\x06\x01\x00\x00\xe0", all) {
+        ccp::Reply::Accept(_) => say(b"The other end offers 40, 56 and 128 bits. Accepted.\n"),
+        ccp::Reply::CounterOffer(choice) => {
+            say(b"The other end offers 40, 56 and 128 bits. The reply asks for one alone:\n");
+            let strength = choice.strength;
+            named(strength);
+        }
+        ccp::Reply::Refused(_) => say(b"The other end's option is refused.\n"),
+    }
+}
+
+// Says a strength.
+fn named(strength: Strength) {
+    match strength {
+        Strength::Bits40 => say(b"  40 bits\n"),
+        Strength::Bits56 => say(b"  56 bits\n"),
+        Strength::Bits128 => say(b"  128 bits\n"),
+    }
 }
 
 // Writes a text to standard output.

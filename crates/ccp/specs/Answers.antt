@@ -1,0 +1,74 @@
+-- What the calls answer (01, "Numbers a call may answer" and "The option").
+use mathlib.Core.Bool.{not}
+use mathlib.Core.List.{List, [], _∷_}
+use Prim.Native.Nat.{ℕ}
+use lib.Dec.{eqb, ltb}
+use lib.ListN.{length, getD}
+use Rattle.answer.specs.Answer.{done, shape, room, strength, pick, firstOf, onDone}
+use Rattle.octets.specs.Octets.{written, wordBE}
+use Rattle.ccp.specs.declared.Mode.{Mode}
+use Rattle.ccp.specs.declared.Mode.the-variants.{Stateless}
+use Rattle.ccp.specs.declared.Strengths.{Strengths}
+use Rattle.ccp.specs.declared.Offer.{Offer}
+use Rattle.ccp.specs.declared.Choice.{Choice}
+use Rattle.ccp.specs.declared.Reply.{Reply}
+use Rattle.ccp.specs.declared.Reply.the-variants.{Accept, CounterOffer, Refused}
+use Rattle.ccp.specs.Option.{optionType, optionLength, modeOf, strengthsOf, optionOctets, common, noneOf, strongest, choiceWord}
+
+-- the number for an option to be read: "Wrong type, length or slice other than six octets: 1"
+unfoldable pub readNumber : List ℕ → ℕ
+readNumber option =
+    firstOf
+    ((shape, not (eqb (length option) optionLength))
+    ∷ (shape, not (eqb (getD option 0 0) optionType))
+    ∷ (shape, not (eqb (getD option 1 0) optionLength))
+    ∷ [])
+
+-- the supported bits of an option; none where it is refused
+unfoldable pub supportedBits : List ℕ → ℕ
+supportedBits option = onDone (readNumber option) (wordBE option 2) 0
+
+-- a refused option has no bit, so it offers no strength and its mode is that of bit H at 0
+unfoldable pub readAnswer : List ℕ → Offer
+readAnswer option = record { answer = readNumber option; mode = modeOf (supportedBits option); strengths = strengthsOf (supportedBits option) }
+
+-- the number for a lent buffer
+abbrev pub writeNumber : List ℕ → ℕ
+writeNumber out = firstOf ((room, ltb (length out) optionLength) ∷ [])
+
+-- the lent buffer, with the option in front where it has room
+unfoldable pub writeOut : Mode → Strengths → List ℕ → List ℕ
+writeOut mode strengths out = onDone (writeNumber out) (written (optionOctets mode strengths) out) out
+
+-- strengths that are both offered by an option and allowed
+abbrev pub usable : List ℕ → Strengths → Strengths
+usable option allowed = common (strengthsOf (supportedBits option)) allowed
+
+-- the number for an option to be replied to: "Option reply: 1, 8"
+unfoldable pub replyNumber : List ℕ → Strengths → ℕ
+replyNumber option allowed =
+    firstOf ((shape, not (eqb (readNumber option) done)) ∷ (strength, noneOf (usable option allowed)) ∷ [])
+
+-- "the strongest strength that is offered and allowed, with H set"
+unfoldable pub chosen : List ℕ → Strengths → Choice
+chosen option allowed = record { strength = strongest (usable option allowed); mode = Stateless }
+
+-- "accept exactly if the request is that word and no other bit"
+unfoldable pub replyWith : ℕ → Choice → Reply
+replyWith word choice = pick (eqb word (choiceWord choice)) (Accept choice) (CounterOffer choice)
+
+unfoldable pub replyAnswer : List ℕ → Strengths → Reply
+replyAnswer option allowed =
+    onDone (replyNumber option allowed) (replyWith (supportedBits option) (chosen option allowed)) (Refused (replyNumber option allowed))
+
+-- the paper's number of a reply ..
+abbrev pub numberOf : Reply → ℕ
+numberOf (Accept choice) = done
+numberOf (CounterOffer choice) = done
+numberOf (Refused number) = number
+
+-- .. and its supported bits
+abbrev pub replyWord : Reply → ℕ
+replyWord (Accept choice) = choiceWord choice
+replyWord (CounterOffer choice) = choiceWord choice
+replyWord (Refused number) = 0

@@ -1,0 +1,152 @@
+-- Laws of the option, which follow from the definitions alone.
+use mathlib.Core.Path.{_≡_, refl, ap, _∙_}
+use mathlib.Core.Bool.{Bool, true, false, not, false≢true}
+use mathlib.Core.List.{List, [], _∷_}
+use mathlib.Core.Logic.{_⊎_, inl, inr}
+use Prim.Native.Nat.{ℕ, zero, suc, _≤_}
+use native.Mathlib.Omega.{arith}
+use lib.Dec.{eqb}
+use lib.ListN.{take}
+use borrow.Author.Tests.{eqb-true}
+use Rattle.answer.specs.Answer.{done, shape, strength, pick, firstOf, onDone}
+use Rattle.mppe_keys.specs.Keys.{bitsOf}
+use Rattle.mppe_keys.specs.declared.Strength.{Strength}
+use Rattle.mppe_keys.specs.declared.Strength.the-variants.{Bits40, Bits56, Bits128}
+use Rattle.ccp.specs.declared.Mode.{Mode}
+use Rattle.ccp.specs.declared.Mode.the-variants.{Stateless, Stateful}
+use Rattle.ccp.specs.declared.Strengths.{Strengths}
+use Rattle.ccp.specs.declared.Offer.{Offer}
+use Rattle.ccp.specs.declared.Choice.{Choice}
+use Rattle.ccp.specs.declared.Reply.the-variants.{Accept, CounterOffer, Refused}
+use Rattle.ccp.specs.Option.{optionLength, modeOf, strengthsOf, wordOf, optionOctets, noneOf, strongest, choiceWord}
+use Rattle.ccp.specs.Answers.{readNumber, supportedBits, readAnswer, writeNumber, writeOut, usable, replyNumber, chosen, replyWith, replyAnswer, numberOf, replyWord}
+
+-- what is written reads back to the same mode and strengths
+reads-back : (mode : Mode) (bits40 bits56 bits128 : Bool)
+    → _≡_ {A = Offer}
+    (readAnswer (optionOctets mode (record { bits40 = bits40; bits56 = bits56; bits128 = bits128 })))
+    (record { answer = done; mode = mode; strengths = record { bits40 = bits40; bits56 = bits56; bits128 = bits128 } })
+unfolding readAnswer readNumber supportedBits optionOctets wordOf modeOf strengthsOf
+reads-back Stateless true true true = refl
+reads-back Stateless true true false = refl
+reads-back Stateless true false true = refl
+reads-back Stateless true false false = refl
+reads-back Stateless false true true = refl
+reads-back Stateless false true false = refl
+reads-back Stateless false false true = refl
+reads-back Stateless false false false = refl
+reads-back Stateful true true true = refl
+reads-back Stateful true true false = refl
+reads-back Stateful true false true = refl
+reads-back Stateful true false false = refl
+reads-back Stateful false true true = refl
+reads-back Stateful false true false = refl
+reads-back Stateful false false true = refl
+reads-back Stateful false false false = refl
+
+pub written-reads-back : (mode : Mode) (s : Strengths) (out : List ℕ) → writeNumber out ≡ done
+    → _≡_ {A = Offer} (readAnswer (take optionLength (writeOut mode s out))) (record { answer = done; mode = mode; strengths = s })
+unfolding writeOut optionOctets
+written-reads-back mode s out e = rw e (reads-back mode (s .bits40) (s .bits56) (s .bits128))
+
+-- the number of a reply is the first row that applies; its word is that of the choice, and 0 where it is refused
+pub reply-told : (option : List ℕ) (allowed : Strengths)
+    → (numberOf (replyAnswer option allowed) ≡ replyNumber option allowed)
+    × (replyWord (replyAnswer option allowed) ≡ onDone (replyNumber option allowed) (choiceWord (chosen option allowed)) 0)
+unfolding replyAnswer replyWith
+reply-told option allowed = go (replyNumber option allowed) (eqb (supportedBits option) (choiceWord (chosen option allowed)))
+  where
+    go : (n : ℕ) (t : Bool) → (numberOf (onDone n (pick t (Accept (chosen option allowed)) (CounterOffer (chosen option allowed))) (Refused n)) ≡ n)
+        × (replyWord (onDone n (pick t (Accept (chosen option allowed)) (CounterOffer (chosen option allowed))) (Refused n)) ≡ onDone n (choiceWord (chosen option allowed)) 0)
+    go zero true = (refl, refl)
+    go zero false = (refl, refl)
+    go (suc n) t = (refl, refl)
+
+-- an accept's word is the request's word
+pub accept-word : (option : List ℕ) (allowed : Strengths) (choice : Choice) → replyAnswer option allowed ≡ Accept choice
+    → supportedBits option ≡ choiceWord choice
+unfolding replyAnswer replyWith
+accept-word option allowed choice = go (replyNumber option allowed) (eqb (supportedBits option) (choiceWord (chosen option allowed))) refl
+  where
+    go : (n : ℕ) (t : Bool) → eqb (supportedBits option) (choiceWord (chosen option allowed)) ≡ t
+        → onDone n (pick t (Accept (chosen option allowed)) (CounterOffer (chosen option allowed))) (Refused n) ≡ Accept choice
+        → supportedBits option ≡ choiceWord choice
+    go zero true e h =
+        let same : chosen option allowed ≡ choice = cc in
+        eqb-true (supportedBits option) (choiceWord (chosen option allowed)) e ∙ ap choiceWord same
+    go zero false e h = cc
+    go (suc n) t e h = cc
+
+-- whether a strength is among strengths
+abbrev pub has : Strengths → Strength → Bool
+has s Bits40 = s .bits40
+has s Bits56 = s .bits56
+has s Bits128 = s .bits128
+
+-- the strongest of strengths is among them ..
+strongest-has : (s : Strengths) → noneOf s ≡ false → has s (strongest s) ≡ true
+strongest-has s = go (s .bits40) (s .bits56) (s .bits128)
+  where
+    go : (a b c : Bool) → noneOf (record { bits40 = a; bits56 = b; bits128 = c }) ≡ false
+        → has (record { bits40 = a; bits56 = b; bits128 = c }) (strongest (record { bits40 = a; bits56 = b; bits128 = c })) ≡ true
+    go a b true h = refl
+    go a true false h = refl
+    go true false false h = refl
+    go false false false h = cc
+
+-- .. and none of them is stronger
+at-most-128 : (x : Strength) → bitsOf x ≤ 128
+at-most-128 Bits40 = omega arith
+at-most-128 Bits56 = omega arith
+at-most-128 Bits128 = omega arith
+
+strongest-most : (s : Strengths) (x : Strength) → has s x ≡ true → bitsOf x ≤ bitsOf (strongest s)
+strongest-most s = go (s .bits40) (s .bits56) (s .bits128)
+  where
+    go : (a b c : Bool) (x : Strength) → has (record { bits40 = a; bits56 = b; bits128 = c }) x ≡ true
+        → bitsOf x ≤ bitsOf (strongest (record { bits40 = a; bits56 = b; bits128 = c }))
+    go a b true x h = at-most-128 x
+    go a b false Bits128 h = absurd (false≢true h)
+    go a true false Bits40 h = omega arith
+    go a true false Bits56 h = omega arith
+    go a false false Bits40 h = omega arith
+    go a false false Bits56 h = absurd (false≢true h)
+
+-- an accept and a counter-offer carry what was chosen
+carried : (option : List ℕ) (allowed : Strengths) (choice : Choice)
+    → (replyAnswer option allowed ≡ Accept choice) ⊎ (replyAnswer option allowed ≡ CounterOffer choice)
+    → (replyNumber option allowed ≡ done) × (chosen option allowed ≡ choice)
+unfolding replyAnswer replyWith
+carried option allowed choice = go (replyNumber option allowed) (eqb (supportedBits option) (choiceWord (chosen option allowed)))
+  where
+    go : (n : ℕ) (t : Bool)
+        → (onDone n (pick t (Accept (chosen option allowed)) (CounterOffer (chosen option allowed))) (Refused n) ≡ Accept choice)
+        ⊎ (onDone n (pick t (Accept (chosen option allowed)) (CounterOffer (chosen option allowed))) (Refused n) ≡ CounterOffer choice)
+        → (n ≡ done) × (chosen option allowed ≡ choice)
+    go zero true (inl h) = (refl, cc)
+    go zero true (inr h) = (refl, cc)
+    go zero false (inl h) = (refl, cc)
+    go zero false (inr h) = (refl, cc)
+    go (suc n) t (inl h) = (cc, cc)
+    go (suc n) t (inr h) = (cc, cc)
+
+-- no refusal: there is a strength to pick
+any-usable : (option : List ℕ) (allowed : Strengths) → replyNumber option allowed ≡ done → noneOf (usable option allowed) ≡ false
+unfolding replyNumber
+any-usable option allowed = go (not (eqb (readNumber option) done)) (noneOf (usable option allowed))
+  where
+    go : (a b : Bool) → firstOf ((shape, a) ∷ (strength, b) ∷ []) ≡ done → b ≡ false
+    go true b h = cc
+    go false true h = cc
+    go false false h = refl
+
+-- the strength of an accept or a counter-offer is offered and allowed, no stronger one is both, and the mode is stateless
+pub best-choice : (option : List ℕ) (allowed : Strengths) (choice : Choice)
+    → (replyAnswer option allowed ≡ Accept choice) ⊎ (replyAnswer option allowed ≡ CounterOffer choice)
+    → (has (usable option allowed) (choice .strength) ≡ true)
+    × ((x : Strength) → has (usable option allowed) x ≡ true → bitsOf x ≤ bitsOf (choice .strength))
+    × (choice .mode ≡ Stateless)
+unfolding chosen
+best-choice option allowed choice h =
+    let told = carried option allowed choice h in
+    rw (← told .1) (strongest-has (usable option allowed) (any-usable option allowed (told .0)), strongest-most (usable option allowed), refl)

@@ -1,0 +1,3 @@
+pub mod Option
+pub mod Answers
+pub mod Laws

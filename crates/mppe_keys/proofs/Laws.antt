@@ -1,0 +1,258 @@
+-- Texts and keys put together from parts, and the ways out of the calls.
+use mathlib.Core.Path.{_≡_, refl, sym, ap, _∙_}
+use mathlib.Core.Bool.{true, false}
+use mathlib.Core.List.{List, [], _++_, append-assoc, append-nil}
+use Prim.Native.Nat.{ℕ, zero, suc, _+_, _*_, _-_, _≤_}
+use native.Mathlib.Omega.{arith}
+use lib.ListN.{length, take, drop, replicate, length-append, length-drop, replicate-append-replicate, drop-of-length-le}
+use lib.Seq.{take-all, take-at, drop-at, take-append-seam, drop-append-seam, drop-append-add, drop-append-le, drop-length, length-take-le}
+use borrow.Author.Tests.{le-ltb, eq-eqb, ne-eqb}
+use borrow.Rule.Slice.PartMut.{putMid}
+use Rattle.octets.specs.Octets.{written, longestText}
+use Rattle.sha1.specs.declared.Digest.{Digest}
+use Rattle.sha1.specs.Sha1.{sha1, sha1Answer}
+use Rattle.rc4.specs.declared.Keyed.{Keyed}
+use Rattle.rc4.specs.Cipher.{keySchedule}
+use Rattle.rc4.specs.Answers.{keyedAnswer, runOut}
+use Rattle.rc4.specs.Laws.{run-length, keyed-done, run-done}
+use Rattle.mppe_keys.specs.declared.Strength.{Strength}
+use Rattle.mppe_keys.specs.declared.Role.{Role}
+use Rattle.mppe_keys.specs.declared.Direction.{Direction}
+use Rattle.mppe_keys.specs.declared.Key.{Key}
+use Rattle.mppe_keys.specs.Keys.{keyLength, magic1, magic2, magic3, fromClient, phrase, masterKey, startKey, initialKey, padded, newKey, headOf, reduced, rc4, keyChange, changes, placed}
+use Rattle.mppe_keys.specs.Answers.{refusal, keyAnswer, oneCode, twoCode, keyChangeAnswer, keyChangesAnswer, placedChanges, Changed}
+use Rattle.mppe_keys.specs.Laws.{key-least, key-most, head-most, reduced-length, keyChange-length, changes-length, changes-one, changes-add}
+
+-- the digest of a text within its limit
+pub digest-done : {d : Digest} (m : List ℕ) → d ≡ sha1Answer m → length m ≤ longestText → d .octets ≡ sha1 m
+unfolding sha1Answer
+digest-done m e h = rw (e, le-ltb longestText (length m) h)
+
+-- what is left of n equal octets
+drop-replicate : (m n a : ℕ) → drop n (replicate m a) ≡ replicate (m - n) a
+drop-replicate m zero a =
+    let e : m - 0 ≡ m = omega arith in
+    rw e
+drop-replicate zero (suc n) a =
+    let e : 0 - suc n ≡ 0 = omega arith in
+    rw e
+drop-replicate (suc m) (suc n) a =
+    let e : suc m - suc n ≡ m - n = omega arith in
+    rw (e, drop-replicate m n a)
+
+-- a key copied over zeros
+pub key-placed : {places : List ℕ} (key : List ℕ) → places ≡ written (take 16 key) (replicate 16 0) → length key ≤ 16 → places ≡ placed key
+unfolding placed
+key-placed key e h = rw (e, take-all 16 key h, drop-replicate 16 (length key) 0)
+
+-- one part more behind those that a text begins with
+grown : {t t′ : List ℕ} (l rest x : List ℕ) (at : ℕ) → t ≡ l ++ rest → t′ ≡ take at t ++ x ++ drop (at + length x) t → length l ≡ at
+    → t′ ≡ (l ++ x) ++ drop (length x) rest
+grown l rest x at e e′ h = rw (e′, e, ← h, take-append-seam l rest, drop-append-add l rest (length x), append-assoc)
+
+-- what is hashed for a master key
+pub master-laid : {t₁ t₂ t₃ : List ℕ} (z a b x : List ℕ) → x ≡ magic1 → t₁ ≡ take 0 z ++ a ++ drop (0 + length a) z
+    → t₂ ≡ take 16 t₁ ++ b ++ drop (16 + length b) t₁ → t₃ ≡ take 40 t₂ ++ x ++ drop (40 + length x) t₂ → length a ≡ 16 → length b ≡ 24
+    → length z ≡ 40 + length x → t₃ ≡ a ++ b ++ magic1
+master-laid z a b x ex e₁ e₂ e₃ ha hb hz =
+    let g₁ = grown [] z a 0 refl e₁ refl in
+    let g₂ = grown a (drop (length a) z) b 16 g₁ e₂ ha in
+    let front : length (a ++ b) ≡ 40 = simp length-append (omega arith) in
+    let g₃ = grown (a ++ b) (drop (length b) (drop (length a) z)) x 40 g₂ e₃ front in
+    let none : drop (length x) (drop (length b) (drop (length a) z)) ≡ [] = drop-of-length-le (drop (length b) (drop (length a) z)) {i = length x} (simp length-drop (omega arith)) in
+    g₃ ∙ rw (none, append-nil, ex, append-assoc)
+
+-- what is hashed for a key, and more 0xF2 behind it
+pub text-laid : {t₁ t₂ t₃ : List ℕ} (m : ℕ) (a b : List ℕ) → t₁ ≡ take 0 (replicate m 0xF2) ++ a ++ drop (0 + length a) (replicate m 0xF2)
+    → t₂ ≡ take (length a) t₁ ++ replicate 40 0 ++ drop (length a + 40) t₁ → t₃ ≡ take (length a + 40) t₂ ++ b ++ drop (length a + 40 + length b) t₂
+    → length a + length b + 80 ≤ m → t₃ ≡ padded a b ++ replicate (m - (length a + length b + 80)) 0xF2
+unfolding padded
+text-laid m a b e₁ e₂ e₃ h =
+    let f : List ℕ = replicate m 0xF2 in
+    let g₁ = grown [] f a 0 refl e₁ refl in
+    let g₂ = grown a (drop (length a) f) (replicate 40 0) (length a) g₁ e₂ refl in
+    let front : length (a ++ replicate 40 0) ≡ length a + 40 = length-append a (replicate 40 0) in
+    let g₃ = grown (a ++ replicate 40 0) (drop 40 (drop (length a) f)) b (length a + 40) g₂ e₃ front in
+    let left : m - length a - 40 - length b ≡ 40 + (m - (length a + length b + 80)) = omega arith in
+    g₃
+    ∙ rw
+    (drop-replicate m (length a) 0xF2, drop-replicate (m - length a) 40 0xF2, drop-replicate (m - length a - 40) (length b) 0xF2, left, ← replicate-append-replicate {A = ℕ} 40 (m - (length a + length b + 80)) 0xF2) (simp append-assoc)
+
+-- what is hashed for a start key
+pub from-client : (role : Role) (direction : Direction) → fromClient role direction ≡ true → magic2 ≡ phrase role direction
+from-client role direction h = rw h
+
+pub from-server : (role : Role) (direction : Direction) → fromClient role direction ≡ false → magic3 ≡ phrase role direction
+from-server role direction h = rw h
+
+pub phrase-laid : {text : List ℕ} (role : Role) (direction : Direction) (master p : List ℕ) → p ≡ phrase role direction
+    → text ≡ padded master p ++ replicate (180 - (length master + length p + 80)) 0xF2 → length master ≡ 16 → length p ≡ 84
+    → text ≡ padded master (phrase role direction)
+phrase-laid role direction master p ep e hm hp =
+    let none : 180 - (length master + length p + 80) ≡ 0 = omega arith in
+    e ∙ rw (none, append-nil, ep)
+
+-- the first octets of a key exchanged
+pub head-put : {key′ : List ℕ} (s : Strength) (head key : List ℕ) → headOf s ≡ head → key′ ≡ written (take (length key) head) key → length head ≤ length key
+    → key′ ≡ reduced s key
+unfolding reduced
+head-put s head key eh e h = rw (e, eh, take-all (length key) head h)
+
+pub head-none : (s : Strength) (key : List ℕ) → headOf s ≡ [] → key ≡ reduced s key
+unfolding reduced
+head-none s key eh = rw eh
+
+-- a key reduced in front of something else
+reduced-front : (s : Strength) (key rest : List ℕ) → length key ≡ keyLength s → reduced s (key ++ rest) ≡ reduced s key ++ rest
+unfolding reduced
+reduced-front s key rest h = rw (drop-append-le (length (headOf s)) key rest (omega (arith, key-least s, head-most s)), append-assoc)
+
+-- a key reduced in its places
+pub places-reduced : {places places′ : List ℕ} (s : Strength) (key : List ℕ) → places ≡ placed key → places′ ≡ reduced s places → length key ≡ keyLength s
+    → places′ ≡ placed (reduced s key)
+unfolding placed
+places-reduced s key e e′ h = e′ ∙ ap (reduced s) e ∙ reduced-front s key (replicate (16 - length key) 0) h ∙ rw (reduced-length s key h, h)
+
+-- RC4 keyed with the interim key and applied to it, reduced, in front of a buffer
+pub next-put : {k : Keyed} {out₁ out₂ : List ℕ} (s : Strength) (interim out : List ℕ) → k ≡ keyedAnswer interim → out₁ ≡ runOut (k .state) interim out
+    → out₂ ≡ reduced s out₁ → length interim ≡ keyLength s → keyLength s ≤ length out → out₂ ≡ written (reduced s (rc4 interim interim)) out
+next-put s interim out ek e₁ e₂ li h =
+    let next : List ℕ = rc4 interim interim in
+    let size : length next ≡ keyLength s = run-length (keySchedule interim) interim ∙ li in
+    let keyed : keyedAnswer interim ≡ record { answer = 0; state = keySchedule interim } = keyed-done interim (omega (arith, key-least s)) (omega (arith, key-most s)) in
+    rw
+    (e₂, e₁, ek, keyed, run-done (keySchedule interim) interim out (omega (arith, key-most s)) (omega arith) .1, reduced-front s next (drop (length next) out) size, reduced-length s next size, size)
+
+-- a text that is hashed: its length, and its parts
+padded-length : (a b : List ℕ) → length (padded a b) ≡ length a + length b + 80
+unfolding padded
+padded-length a b = simp length-append (omega arith)
+
+padded-parts : (a b rest : List ℕ) → padded a b ++ rest ≡ (a ++ replicate 40 0) ++ (b ++ (replicate 40 0xF2 ++ rest))
+unfolding padded
+padded-parts a b rest = simp append-assoc
+
+pub padded-front : (a b rest : List ℕ) (n : ℕ) → length a + length b + 80 ≡ n → take n (padded a b ++ rest) ≡ padded a b
+padded-front a b rest n h = take-at (padded a b) rest n (padded-length a b ∙ h)
+
+-- a part of a buffer exchanged for another of its length
+replaced : {text ys : List ℕ} (front old tail new : List ℕ) (at : ℕ) → text ≡ front ++ (old ++ tail)
+    → ys ≡ written new (take (length text - at) (drop at text)) → length front ≡ at → length new ≡ length old
+    → putMid at (length text - at) text ys ≡ front ++ (new ++ tail)
+replaced {text} front old tail new at et ey hf hn =
+    let size : length text - at ≡ length (old ++ tail) = omega (arith, simp length-append at (ap length et), length-append old tail) in
+    let part : drop at text ≡ old ++ tail = ap (drop at) et ∙ drop-at front (old ++ tail) at hf in
+    let before : take at text ≡ front = ap (take at) et ∙ take-at front (old ++ tail) at hf in
+    rw
+    (ey, size, before, part, take-all (length (old ++ tail)) (old ++ tail) (omega arith), drop-length (old ++ tail), hn, drop-append-seam old tail, append-nil)
+
+-- the front of a list is as long as asked
+pub count : (n : ℕ) (l : List ℕ) → n ≤ length l → n ≡ length (take n l)
+count n l h = sym (length-take-le n l h)
+
+-- .. and short enough to be hashed
+pub front-short : (n : ℕ) (l : List ℕ) → n ≤ length l → n ≤ longestText → length (take n l) ≤ longestText
+front-short n l h h′ = omega (arith, length-take-le n l h)
+
+-- the rest of a buffer has room for what fits behind its first octets
+pub rest-room : (at k : ℕ) (l : List ℕ) → at + k ≤ length l → k ≤ length (take (length l - at) (drop at l))
+rest-room at k l h =
+    let size : length (drop at l) ≡ length l - at = length-drop at l in
+    omega (arith, length-take-le (length l - at) (drop at l) (omega arith))
+
+-- the front of a text's digest is the new key
+pub key-made : {k : ℕ} {text digest : List ℕ} (s : Strength) (start session rest : List ℕ) → k ≡ keyLength s → text ≡ padded start session ++ rest
+    → digest ≡ sha1 (take (2 * k + 80) text) → length start ≡ keyLength s → length session ≡ keyLength s → take k digest ≡ newKey s start session
+unfolding newKey
+key-made {k} s start session rest ek et ed hs hn = rw (ed, et, padded-front start session rest (2 * k + 80) (omega arith), ek)
+
+pub initial-done : {k : ℕ} {text digest octets : List ℕ} (s : Strength) (start rest : List ℕ) → k ≡ keyLength s → text ≡ padded start start ++ rest
+    → digest ≡ sha1 (take (2 * k + 80) text) → octets ≡ placed (reduced s (take k digest)) → length start ≡ keyLength s → octets ≡ placed (initialKey s start)
+unfolding initialKey
+initial-done s start rest ek et ed eo h = rw (eo, key-made s start start rest ek et ed h h)
+
+pub start-done : {k : ℕ} {text digest octets : List ℕ} (s : Strength) (role : Role) (direction : Direction) (master : List ℕ) → k ≡ keyLength s
+    → text ≡ padded master (phrase role direction) → digest ≡ sha1 text → octets ≡ placed (take k digest)
+    → octets ≡ placed (startKey s role direction master)
+unfolding startKey
+start-done s role direction master ek et ed eo = rw (eo, ed, et, ek)
+
+pub master-done : {text digest octets : List ℕ} (hashHash response : List ℕ) → text ≡ hashHash ++ response ++ magic1 → digest ≡ sha1 text
+    → octets ≡ placed (take 16 digest) → octets ≡ placed (masterKey hashHash response)
+unfolding masterKey
+master-done hashHash response et ed eo = rw (eo, ed, et)
+
+-- a key change in a text that is hashed
+pub changed-once : {k : ℕ} {digest ys text′ : List ℕ} (s : Strength) (text : List ℕ) → k ≡ keyLength s → digest ≡ sha1 (take (2 * k + 80) text)
+    → ys ≡ written (reduced s (rc4 (take k digest) (take k digest))) (take (length text - (k + 40)) (drop (k + 40) text))
+    → text′ ≡ putMid (k + 40) (length text - (k + 40)) text ys → Changed s 1 text text′
+unfolding Changed changes keyChange
+changed-once {k} {digest} s text ek ed ey e′ start session rest hs hn et =
+    let interim : take k digest ≡ newKey s start session = key-made s start session rest ek et ed hs hn in
+    let front : length (start ++ replicate 40 0) ≡ k + 40 = length-append start (replicate 40 0) ∙ omega arith in
+    let size : length (keyChange s start session) ≡ length session = keyChange-length s start session ∙ sym hn in
+    e′
+    ∙ replaced (start ++ replicate 40 0) session (replicate 40 0xF2 ++ rest) (keyChange s start session) (k + 40) (et ∙ padded-parts start session rest) (rw interim at ey) front size
+    ∙ sym (padded-parts start (keyChange s start session) rest)
+
+-- one key change more
+pub changed-none : (s : Strength) (text : List ℕ) → Changed s 0 text text
+unfolding Changed changes
+changed-none s text start session rest hs hn et = et
+
+pub changed-more : (s : Strength) (i : ℕ) (text text′ text″ : List ℕ) → Changed s i text text′ → Changed s 1 text′ text″ → Changed s (i + 1) text text″
+unfolding Changed
+changed-more s i text text′ text″ e e′ start session rest hs hn et =
+    rw (← changes-add s start i 1 session) (e′ start (changes s start i session) rest hs (changes-length s start i session hn) (e start session rest hs hn et))
+
+-- the session key that stands in such a text
+pub session-part : (k : ℕ) (start key rest : List ℕ) → length start ≡ k → length key ≡ k
+    → take (2 * k + 40 - (k + 40)) (drop (k + 40) (padded start key ++ rest)) ≡ key
+session-part k start key rest hs hk =
+    let size : 2 * k + 40 - (k + 40) ≡ k = omega arith in
+    let front : length (start ++ replicate 40 0) ≡ k + 40 = length-append start (replicate 40 0) ∙ omega arith in
+    rw
+    (size, padded-parts start key rest, drop-at (start ++ replicate 40 0) (key ++ (replicate 40 0xF2 ++ rest)) (k + 40) front, take-at key (replicate 40 0xF2 ++ rest) k hk)
+
+pub key-changed : {k : ℕ} {text key : List ℕ} (s : Strength) (start session rest text′ : List ℕ) (n : ℕ) → k ≡ keyLength s → text ≡ padded start session ++ rest
+    → Changed s n text text′ → key ≡ placed (take (2 * k + 40 - (k + 40)) (drop (k + 40) text′)) → length start ≡ keyLength s → length session ≡ keyLength s
+    → key ≡ placed (changes s start n session)
+unfolding Changed
+key-changed {k} s start session rest text′ n ek et e ey hs hn =
+    rw
+    (ey, e start session rest hs hn et, session-part k start (changes s start n session) rest (hs ∙ sym ek) (changes-length s start n session hn ∙ sym ek))
+
+-- one of n key changes, as its call answers it
+pub answer-one : (s : Strength) (start session : List ℕ) → keyChangesAnswer s start session 1 ≡ keyChangeAnswer s start session
+unfolding keyChangesAnswer keyChangeAnswer
+answer-one s start session = rw (changes-one s start session)
+
+-- keys in 16 places
+pub places-changed : {k : ℕ} {key : List ℕ} (s : Strength) (start session : List ℕ) (n : ℕ) → k ≡ keyLength s
+    → key ≡ placed (changes s (take k start) n (take k session)) → key ≡ placedChanges s start session n
+unfolding placedChanges
+places-changed s start session n ek e = rw (e, ek)
+
+-- the ways out of a call with one length
+pub one-wrong : (n : ℕ) (a key : List ℕ) → (length a ≡ n → ⊥) → refusal ≡ keyAnswer (oneCode n a) key
+unfolding keyAnswer oneCode
+one-wrong n a key h = rw (ne-eqb (length a) n h)
+
+pub one-right : {octets : List ℕ} (n : ℕ) (a key : List ℕ) → length a ≡ n → octets ≡ placed key
+    → _≡_ {A = Key} (record { answer = 0; octets = octets }) (keyAnswer (oneCode n a) key)
+unfolding keyAnswer oneCode
+one-right n a key h e = rw (eq-eqb (length a) n h, e)
+
+-- the ways out of a call with two
+pub two-wrong : (n : ℕ) (a : List ℕ) (m : ℕ) (b key : List ℕ) → (length a ≡ n → ⊥) → refusal ≡ keyAnswer (twoCode n a m b) key
+unfolding keyAnswer twoCode
+two-wrong n a m b key h = rw (ne-eqb (length a) n h)
+
+pub two-wrong-next : (n : ℕ) (a : List ℕ) (m : ℕ) (b key : List ℕ) → length a ≡ n → (length b ≡ m → ⊥) → refusal ≡ keyAnswer (twoCode n a m b) key
+unfolding keyAnswer twoCode
+two-wrong-next n a m b key h h′ = rw (eq-eqb (length a) n h, ne-eqb (length b) m h′)
+
+pub two-right : {octets : List ℕ} (n : ℕ) (a : List ℕ) (m : ℕ) (b key : List ℕ) → length a ≡ n → length b ≡ m → octets ≡ placed key
+    → _≡_ {A = Key} (record { answer = 0; octets = octets }) (keyAnswer (twoCode n a m b) key)
+unfolding keyAnswer twoCode
+two-right n a m b key h h′ e = rw (eq-eqb (length a) n h, eq-eqb (length b) m h′, e)

@@ -1,0 +1,76 @@
+use mathlib.Core.Path.{_≡_, refl, _∙_}
+use Prim.Native.Nat.{_+_, _*_}
+use native.Mathlib.Omega.{arith}
+use lib.Seq.{length-take-le}
+use lib.ListN.{length}
+use borrow.Author.Needs.{needs}
+use Rattle.mppe_keys.specs.Keys.{keyLength}
+use Rattle.mppe_keys.proofs.Laws.{count, front-short, rest-room, changed-once}
+use Rattle.mppe_keys.proofs.change.Statement.{statement}
+use Rattle.mppe_keys.proofs.change.Tie as tie
+
+key-octets-requires : tie.Need-key-octets-requires
+key-octets-requires c κs = search needs
+
+mul-digest-of : tie.Need-mul-digest-of
+mul-digest-of c = search needs
+
+add-digest-of : tie.Need-add-digest-of
+add-digest-of c = search needs
+
+slice-reshare-prefix-digest-of : tie.Need-slice-reshare-prefix-digest-of
+slice-reshare-prefix-digest-of c = search needs
+
+slice-aggregate-digest-of : tie.Need-slice-aggregate-digest-of
+slice-aggregate-digest-of c = count (2 * c .before .key-octets .result + 80) (c .before .before .before .args .text .now) (omega arith)
+
+digest-of-requires : tie.Need-digest-of-requires
+digest-of-requires c κs = front-short (2 * c .before .key-octets .result + 80) (c .before .before .before .args .text .now) (omega arith) (omega arith)
+
+array-share-prefix-digest : tie.Need-array-share-prefix-digest
+array-share-prefix-digest c = search needs
+
+slice-aggregate-put-next-key : tie.Need-slice-aggregate-put-next-key
+slice-aggregate-put-next-key c = let d = c .before .digest-of .result in let size : length d ≡ 20 = search needs in count (c .before .before .before .key-octets .result) d (omega arith)
+
+add-put-next-key : tie.Need-add-put-next-key
+add-put-next-key c = search needs
+
+sub-put-next-key : tie.Need-sub-put-next-key
+sub-put-next-key c = search needs
+
+part-put-next-key-start : tie.Need-part-put-next-key-start
+part-put-next-key-start c = search needs
+
+part-put-next-key-end : tie.Need-part-put-next-key-end
+part-put-next-key-end c = search needs
+
+put-next-key-requires : tie.Need-put-next-key-requires
+put-next-key-requires c κs = let d = c .before .before .digest-of .result in let size : length d ≡ 20 = search needs in let k = c .before .before .before .before .key-octets in
+    (length-take-le (k .result) d (omega arith) ∙ k .ensures .0, rest-room (k .result + 40) (keyLength (c .before .before .before .before .before .before .args .strength)) (c .before .before .before .before .before .before .args .text .now) (omega arith))
+
+same-length : tie.Need-same-length
+same-length c = search needs
+
+returns : tie.Need-returns
+returns c = changed-once (c .before .before .before .before .before .before .before .before .before .args .strength) (c .before .before .before .before .before .before .before .before .before .args .text .now) (c .before .before .before .before .before .before .before .key-octets .ensures .0) (c .before .before .before .before .before .digest-of .ensures) (c .before .before .put-next-key .ensures) refl
+
+pub change-spec : {M : Type 1} → statement M
+change-spec =
+    tie.close
+    (tie.spec
+    key-octets-requires
+    mul-digest-of
+    add-digest-of
+    slice-reshare-prefix-digest-of
+    slice-aggregate-digest-of
+    digest-of-requires
+    array-share-prefix-digest
+    slice-aggregate-put-next-key
+    add-put-next-key
+    sub-put-next-key
+    part-put-next-key-start
+    part-put-next-key-end
+    put-next-key-requires
+    same-length
+    returns)

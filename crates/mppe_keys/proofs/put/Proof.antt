@@ -1,0 +1,19 @@
+use mathlib.Core.Path.{_∙_}
+use denote.Ref.{now}
+use borrow.Author.Needs.{needs}
+use Rattle.octets.proofs.Laws.{copy-fits}
+use Rattle.mppe_keys.proofs.put.Statement.{statement}
+use Rattle.mppe_keys.proofs.put.Tie as tie
+
+copy-at-requires : tie.Need-copy-at-requires
+copy-at-requires c κs = search needs
+
+same-length : tie.Need-same-length
+same-length c = search needs
+
+returns : tie.Need-returns
+returns c = let a = c .before .before .before .before .before .before in
+    c .before .before .copy-at .ensures ∙ copy-fits (a .args .at) (now (a .args .octets)) (now (a .args .out)) (a .pre)
+
+pub put-spec : {M : Type 1} → statement M
+put-spec = tie.close (tie.spec copy-at-requires same-length returns)

@@ -1,0 +1,25 @@
+use native.Mathlib.Omega.{arith}
+use borrow.Author.Needs.{needs}
+use Rattle.mppe_keys.specs.Laws.{key-least}
+use Rattle.mppe_keys.proofs.Laws.{next-put}
+use Rattle.mppe_keys.proofs.put_next_key.Statement.{statement}
+use Rattle.mppe_keys.proofs.put_next_key.Tie as tie
+
+keyed-requires : tie.Need-keyed-requires
+keyed-requires c κs = search needs
+
+run-requires : tie.Need-run-requires
+run-requires c κs = search needs
+
+reduce-front-requires : tie.Need-reduce-front-requires
+reduce-front-requires c κs = omega (arith, key-least (c .before .before .before .before .before .before .before .before .before .args .strength), c .before .before .before .before .before .before .before .before .before .pre .1)
+
+same-length : tie.Need-same-length
+same-length c = search needs
+
+returns : tie.Need-returns
+returns c = let s = c .before .before .before .before .before .before .before .before .before .before .before .before in next-put _ _ _ (c .before .before .before .before .before .before .before .before .before .keyed .ensures) (c .before .before .before .before .before .before .run .ensures .1) (c .before .before .reduce-front .ensures) (s .pre .0) (s .pre .1)
+
+pub put-next-key-spec : {M : Type 1} → statement M
+put-next-key-spec =
+    tie.close (tie.spec keyed-requires run-requires reduce-front-requires same-length returns)
