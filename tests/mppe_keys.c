@@ -118,6 +118,17 @@ static int initial(int bits, const octet *start, size_t n, key out)
     return 0;
 }
 
+static int new_key(int bits, const octet *start, size_t a, const octet *session, size_t b, key out)
+{
+    size_t size = length_of(bits);
+
+    memset(out, 0, 16);
+    if (a != size || b != size)
+        return 3;
+    padded(start, size, session, size, out, size);
+    return 0;
+}
+
 /* RFC 3078, 7.3: the interim key enciphers itself, and the outcome is reduced; n times. */
 static int changes(int bits, const octet *start, size_t a, const octet *session, size_t b, size_t n, key out)
 {
@@ -159,6 +170,7 @@ static void session(int bits, const octet *start)
     RC4_set_key(&r, n, first);
     RC4(&r, 12, (const octet *)"test message", message);
     line("test message", 0, message, 12);
+    line("new key", new_key(bits, start, n, first, n, next), next, 16);
     line("after one key change", changes(bits, start, n, first, n, 1, next), next, 16);
     for (size_t k = 0; k < sizeof numbers / sizeof *numbers; k++)
         show_changes(bits, start, n, first, n, numbers[k]);
@@ -212,6 +224,9 @@ static void lengths(int bits)
     show_changes(bits, c, n - 1, c, n, 7);
     show_changes(bits, c, n, c, n + 1, 7);
     show_changes(bits, c, n - 1, c, n + 1, 0);
+    line("new key", new_key(bits, c, n, c, n, k), k, 16);
+    line("new key, start short", new_key(bits, c, n - 1, c, n, k), k, 16);
+    line("new key, session long", new_key(bits, c, n, c, n + 1, k), k, 16);
 }
 
 int main(void)

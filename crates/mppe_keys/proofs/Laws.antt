@@ -166,6 +166,11 @@ pub key-made : {k : ℕ} {text digest : List ℕ} (s : Strength) (start session 
 unfolding newKey
 key-made {k} s start session rest ek et ed hs hn = rw (ed, et, padded-front start session rest (2 * k + 80) (omega arith), ek)
 
+pub new-done : {k : ℕ} {text digest octets : List ℕ} (s : Strength) (start session rest : List ℕ) → k ≡ keyLength s → text ≡ padded start session ++ rest
+    → digest ≡ sha1 (take (2 * k + 80) text) → octets ≡ placed (take k digest) → length start ≡ keyLength s → length session ≡ keyLength s
+    → octets ≡ placed (newKey s start session)
+new-done s start session rest ek et ed eo hs hn = rw (eo, key-made s start session rest ek et ed hs hn)
+
 pub initial-done : {k : ℕ} {text digest octets : List ℕ} (s : Strength) (start rest : List ℕ) → k ≡ keyLength s → text ≡ padded start start ++ rest
     → digest ≡ sha1 (take (2 * k + 80) text) → octets ≡ placed (reduced s (take k digest)) → length start ≡ keyLength s → octets ≡ placed (initialKey s start)
 unfolding initialKey

@@ -10,7 +10,7 @@ use Rattle.mppe_keys.specs.declared.Strength.{Strength}
 use Rattle.mppe_keys.specs.declared.Role.{Role}
 use Rattle.mppe_keys.specs.declared.Direction.{Direction}
 use Rattle.mppe_keys.specs.declared.Key.{Key}
-use Rattle.mppe_keys.specs.Keys.{keyLength, masterKey, padded, startKey, reduced, initialKey, keyChange, changes, placed}
+use Rattle.mppe_keys.specs.Keys.{keyLength, masterKey, padded, startKey, reduced, newKey, initialKey, keyChange, changes, placed}
 
 -- what a wrong length is answered: 3 and zeros
 abbrev pub refusal : Key
@@ -38,6 +38,9 @@ masterKeyAnswer hashHash response = keyAnswer (twoCode 16 hashHash 24 response) 
 
 unfoldable pub startKeyAnswer : Strength → Role → Direction → List ℕ → Key
 startKeyAnswer s role direction master = keyAnswer (oneCode 16 master) (startKey s role direction master)
+
+unfoldable pub newKeyAnswer : Strength → List ℕ → List ℕ → Key
+newKeyAnswer s start session = keyAnswer (twoCode (keyLength s) start (keyLength s) session) (newKey s start session)
 
 unfoldable pub initialKeyAnswer : Strength → List ℕ → Key
 initialKeyAnswer s start = keyAnswer (oneCode (keyLength s) start) (initialKey s start)

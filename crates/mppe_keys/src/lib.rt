@@ -6,7 +6,7 @@ ghost use lib.ListN.{length, take, drop, replicate};
 ghost use Rattle.octets.specs.Octets.{written, longestText};
 ghost use Rattle.sha1.specs.Sha1.{sha1 as digestOf};
 ghost use Rattle.mppe_keys.specs.Keys.{keyLength, magic1, fromClient, phrase, padded, reduced, rc4, changes, placed as placedKey};
-ghost use Rattle.mppe_keys.specs.Answers.{refusal, masterKeyAnswer, startKeyAnswer, initialKeyAnswer, reduceAnswer, keyChangeAnswer, keyChangesAnswer, placedChanges, Changed};
+ghost use Rattle.mppe_keys.specs.Answers.{refusal, masterKeyAnswer, startKeyAnswer, newKeyAnswer, initialKeyAnswer, reduceAnswer, keyChangeAnswer, keyChangesAnswer, placedChanges, Changed};
 use octets::copy;
 use octets::copy_at;
 use rc4::Rc4;
@@ -80,6 +80,25 @@ pub fn start_key(strength: Strength, role: Role, direction: Direction, master: &
     let n = key_octets(strength);
     let text = start_text(role, direction, master);
     let digest = digest_of(&text);
+    Key {
+        answer: answer::DONE,
+        octets: placed(&digest[..n]),
+    }
+}
+
+// The new key of a start key and a session key, from which both the initial session key and a key change are made.
+pub fn new_key(strength: Strength, start: &[u8], session: &[u8]) -> Key
+    ensures { λ r. ⌜ r ≡ newKeyAnswer strength (now (start .entry)) (now (session .entry)) ⌝ }
+{
+    let n = key_octets(strength);
+    if start.len() != n {
+        return refused();
+    }
+    if session.len() != n {
+        return refused();
+    }
+    let text = key_text(start, session);
+    let digest = digest_of(&text[..2 * n + 80]);
     Key {
         answer: answer::DONE,
         octets: placed(&digest[..n]),

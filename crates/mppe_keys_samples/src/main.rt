@@ -202,6 +202,7 @@ fn session(strength: Strength, start: &[u8], n: usize)
 // The session keys from the first one on, and the sample's message under that one.
 fn changes(strength: Strength, start: &[u8], first: &[u8]) {
     encrypted(first, &mut [0u8; 12]);
+    shown(b"new key", mppe_keys::new_key(strength, start, first));
     shown(
         b"after one key change",
         mppe_keys::key_change(strength, start, first),
@@ -348,4 +349,18 @@ fn lengths(label: &[u8], strength: Strength, short: &[u8], right: &[u8], long: &
     changed(strength, short, right, 7);
     changed(strength, right, long, 7);
     changed(strength, short, long, 0);
+    new_keys(strength, short, right, long);
+}
+
+// New keys of the length of their strength, and one octet shorter and longer.
+fn new_keys(strength: Strength, short: &[u8], right: &[u8], long: &[u8]) {
+    shown(b"new key", mppe_keys::new_key(strength, right, right));
+    shown(
+        b"new key, start short",
+        mppe_keys::new_key(strength, short, right),
+    );
+    shown(
+        b"new key, session long",
+        mppe_keys::new_key(strength, right, long),
+    );
 }
