@@ -61,6 +61,10 @@ unfoldable pub replyAnswer : List ℕ → Strengths → Reply
 replyAnswer option allowed =
     onDone (replyNumber option allowed) (replyWith (supportedBits option) (chosen option allowed)) (Refused (replyNumber option allowed))
 
+-- the word of a reply: that of the choice, and 0 where it is refused
+unfoldable pub repliedWord : List ℕ → Strengths → ℕ
+repliedWord option allowed = onDone (replyNumber option allowed) (choiceWord (chosen option allowed)) 0
+
 -- the paper's number of a reply ..
 abbrev pub numberOf : Reply → ℕ
 numberOf (Accept choice) = done

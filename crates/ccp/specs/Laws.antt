@@ -19,7 +19,7 @@ use Rattle.ccp.specs.declared.Offer.{Offer}
 use Rattle.ccp.specs.declared.Choice.{Choice}
 use Rattle.ccp.specs.declared.Reply.the-variants.{Accept, CounterOffer, Refused}
 use Rattle.ccp.specs.Option.{optionLength, modeOf, strengthsOf, wordOf, optionOctets, noneOf, strongest, choiceWord}
-use Rattle.ccp.specs.Answers.{readNumber, supportedBits, readAnswer, writeNumber, writeOut, usable, replyNumber, chosen, replyWith, replyAnswer, numberOf, replyWord}
+use Rattle.ccp.specs.Answers.{readNumber, supportedBits, readAnswer, writeNumber, writeOut, usable, replyNumber, repliedWord, chosen, replyWith, replyAnswer, numberOf, replyWord}
 
 -- what is written reads back to the same mode and strengths
 reads-back : (mode : Mode) (bits40 bits56 bits128 : Bool)
@@ -52,8 +52,8 @@ written-reads-back mode s out e = rw e (reads-back mode (s .bits40) (s .bits56) 
 -- the number of a reply is the first row that applies; its word is that of the choice, and 0 where it is refused
 pub reply-told : (option : List ℕ) (allowed : Strengths)
     → (numberOf (replyAnswer option allowed) ≡ replyNumber option allowed)
-    × (replyWord (replyAnswer option allowed) ≡ onDone (replyNumber option allowed) (choiceWord (chosen option allowed)) 0)
-unfolding replyAnswer replyWith
+    × (replyWord (replyAnswer option allowed) ≡ repliedWord option allowed)
+unfolding replyAnswer replyWith repliedWord
 reply-told option allowed = go (replyNumber option allowed) (eqb (supportedBits option) (choiceWord (chosen option allowed)))
   where
     go : (n : ℕ) (t : Bool) → (numberOf (onDone n (pick t (Accept (chosen option allowed)) (CounterOffer (chosen option allowed))) (Refused n)) ≡ n)

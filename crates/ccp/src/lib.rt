@@ -6,7 +6,7 @@ ghost use mathlib.Core.List.{_∷_};
 ghost use Rattle.answer.specs.Answer.{shape, pick};
 ghost use Rattle.octets.specs.Octets.{bigEndian};
 ghost use Rattle.ccp.specs.Option.{optionType, optionLength, isSet, modeOf, strengthsOf, modeBit, wordOf, common as inCommon, noneOf, strongest as strongestOf, only as alone, choiceWord};
-ghost use Rattle.ccp.specs.Answers.{readNumber, supportedBits, readAnswer, writeNumber, writeOut, replyAnswer};
+ghost use Rattle.ccp.specs.Answers.{readNumber, supportedBits, readAnswer, writeNumber, writeOut, replyNumber, repliedWord, replyAnswer, numberOf, replyWord};
 
 // The option's type.
 const OPTION_TYPE: u8 = 18;
@@ -85,26 +85,12 @@ pub fn write(mode: Mode, strengths: Strengths, out: &mut [u8]) -> u8
     answer::DONE
 }
 
-// Replies to a request with the strongest strength that is offered and allowed; refused as `shape` as in reading, then as `strength` where there is none.
+// Replies to a request with the strongest strength that is offered and allowed; refused with 1 as in reading, then with 8 where there is none.
 pub fn reply_to(option: &[u8], allowed: Strengths) -> Reply
-    ensures { λ r. ⌜ r ≡ replyAnswer (now (option .entry)) allowed ⌝ }
+    ensures { λ r. ⌜ (r ≡ replyAnswer (now (option .entry)) allowed)
+        × (numberOf r ≡ replyNumber (now (option .entry)) allowed) × (replyWord r ≡ repliedWord (now (option .entry)) allowed) ⌝ }
 {
-    let bits = supported_bits(option);
-    if bits.answer != answer::DONE {
-        return Reply::Refused(answer::SHAPE);
-    }
-    let usable = common(strengths_of(bits.word), allowed);
-    if none_of(usable) {
-        return Reply::Refused(answer::STRENGTH);
-    }
-    let choice = Choice {
-        strength: strongest(usable),
-        mode: Mode::Stateless,
-    };
-    if bits.word != choice_word(choice) {
-        return Reply::CounterOffer(choice);
-    }
-    Reply::Accept(choice)
+    reply_of(option, allowed)
 }
 
 // One strength alone, as the option of a reply has it.
@@ -128,6 +114,28 @@ pub fn only(strength: Strength) -> Strengths
             bits128: true,
         },
     }
+}
+
+// The reply to a request, case by case.
+fn reply_of(option: &[u8], allowed: Strengths) -> Reply
+    ensures { λ r. ⌜ r ≡ replyAnswer (now (option .entry)) allowed ⌝ }
+{
+    let bits = supported_bits(option);
+    if bits.answer != answer::DONE {
+        return Reply::Refused(answer::SHAPE);
+    }
+    let usable = common(strengths_of(bits.word), allowed);
+    if none_of(usable) {
+        return Reply::Refused(answer::STRENGTH);
+    }
+    let choice = Choice {
+        strength: strongest(usable),
+        mode: Mode::Stateless,
+    };
+    if bits.word != choice_word(choice) {
+        return Reply::CounterOffer(choice);
+    }
+    Reply::Accept(choice)
 }
 
 // The supported bits of an option; a refused one has none.
