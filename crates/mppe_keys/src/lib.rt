@@ -90,18 +90,18 @@ pub fn start_key(strength: Strength, role: Role, direction: Direction, master: &
 pub fn new_key(strength: Strength, start: &[u8], session: &[u8]) -> Key
     ensures { λ r. ⌜ r ≡ newKeyAnswer strength (now (start .entry)) (now (session .entry)) ⌝ }
 {
-    let n = key_octets(strength);
-    if start.len() != n {
+    let k = key_octets(strength);
+    if start.len() != k {
         return refused();
     }
-    if session.len() != n {
+    if session.len() != k {
         return refused();
     }
     let text = key_text(start, session);
-    let digest = digest_of(&text[..2 * n + 80]);
+    let digest = digest_of(&text[..2 * k + 80]);
     Key {
         answer: answer::DONE,
-        octets: placed(&digest[..n]),
+        octets: placed(&digest[..k]),
     }
 }
 
