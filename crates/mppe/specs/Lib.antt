@@ -1,0 +1,4 @@
+pub mod Link
+pub mod Laws
+pub mod Run
+pub mod Demand3
