@@ -161,19 +161,25 @@ keyFor l packet = changes (l .strength) (startKeyIn l) (changesFor l packet) (se
 unfoldable pub plainFor : Link → List ℕ → List ℕ
 plainFor l packet = rc4 (keyFor l packet) (drop front packet)
 
--- "Open: 7, 1, 5, 6, 2, 4", with two ways to have a wrong shape and two to lack a flag
-unfoldable pub openCode : ℕ → Link → List ℕ → ℕ → ℕ
-openCode limit l packet lent =
-    firstOf
-    ((notRecord, not (wellFormed l))
+-- the rows of open's table that the record, the packet's front and the lengths decide: 7, 1, 5, 6, 2, with two ways to have a wrong
+-- shape and two to lack a flag
+abbrev pub frontRows : ℕ → Link → List ℕ → ℕ → List (ℕ × Bool)
+frontRows limit l packet lent =
+    (notRecord, not (wellFormed l))
     ∷ (shape, outside (front + shortestPlain) (front + limit) (length packet))
     ∷ (shape, not (eqb (pairAt 0 packet) 0x00FD))
     ∷ (flags, lacks bitA packet)
     ∷ (flags, lacks bitD packet)
     ∷ (repeat, eqb (changesFor l packet) 0)
     ∷ (room, ltb lent (length packet - front))
-    ∷ (protocol, offProtocol (plainFor l packet))
-    ∷ [])
+    ∷ []
+
+unfoldable pub frontCode : ℕ → Link → List ℕ → ℕ → ℕ
+frontCode limit l packet lent = firstOf (frontRows limit l packet lent)
+
+-- "Open: 7, 1, 5, 6, 2, 4"
+unfoldable pub openCode : ℕ → Link → List ℕ → ℕ → ℕ
+openCode limit l packet lent = firstOf (frontRows limit l packet lent ++ ((protocol, offProtocol (plainFor l packet)) ∷ []))
 
 -- what open gives; "then last count = arrived"
 unfoldable pub openResult : ℕ → Link → List ℕ → List ℕ → Result
