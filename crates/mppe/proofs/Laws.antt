@@ -1,6 +1,6 @@
 -- The ways out of the link's functions, over plain lists and numbers.
 use mathlib.Core.Path.{_≡_, refl, sym, ap, _∙_}
-use mathlib.Core.Bool.{Bool, true, false, not}
+use mathlib.Core.Bool.{Bool, true, false, not, false≢true}
 use mathlib.Core.List.{List, [], _∷_, _++_}
 use Prim.Native.Nat.{ℕ, zero, suc, _+_, _*_, _-_, _/_, _%_, _^_, _<_, _≤_}
 use native.Mathlib.Numerals.{add-one}
@@ -8,8 +8,8 @@ use native.Mathlib.Omega.{arith}
 use lib.Dec.{eqb, ltb, lit≤}
 use lib.ListN.{length, take, drop, getD, replicate, drop-of-length-le}
 use lib.Seq.{drop-cons, take-all, length-take-le}
-use borrow.Author.Tests.{lt-ltb, le-ltb, eq-eqb, ne-eqb, eqb-true, not-false}
-use Rattle.answer.specs.Answer.{done, size, pick, outside, firstOf}
+use borrow.Author.Tests.{lt-ltb, le-ltb, eq-eqb, ne-eqb, ltb-true, eqb-true, not-true, not-false}
+use Rattle.answer.specs.Answer.{done, shape, room, size, protocol, flags, repeat, notRecord, pick, outside, firstOf}
 use Rattle.octets.specs.Octets.{written}
 use Rattle.rc4.specs.declared.Rc4.{Rc4}
 use Rattle.rc4.specs.declared.Keyed.{Keyed}
@@ -24,7 +24,8 @@ use Rattle.mppe_keys.specs.Laws.{key-least, key-most}
 use Rattle.mppe_keys.proofs.Laws.{key-placed}
 use Rattle.mppe.specs.declared.Link.{Link}
 use Rattle.mppe.specs.declared.NewLink.{NewLink}
-use Rattle.mppe.specs.Link.{zeros, begins, startKeyIn, sessionKeyIn, renewed, linkOf, newLink, newLinkCode, offProtocol, bitA, bitD, header}
+use Rattle.mppe.specs.Link.{zeros, begins, wellFormed, startKeyIn, sessionKeyIn, renewed, linkOf, newLink, newLinkCode, pairAt, offProtocol, bitA, bitD, header, countIn, distance, changesFor, sealCode, packetRows, packetCode, laterRows, frontRows, frontCode}
+use Rattle.mppe.specs.Laws.{rows-none, rows-pass, rows-stop, within, outside-none}
 
 -- one place more that is 0, one that is not, and the end of the places
 pub zeros-more : {b : Bool} (l : List ℕ) (i : ℕ) → b ≡ zeros (drop i l) → getD l i 0 ≡ 0 → i < length l → b ≡ zeros (drop (i + 1) l)
@@ -136,3 +137,148 @@ new-done s start e h ep =
     let long = eqb-true (length start) (keyLength s) (not-false (eqb (length start) (keyLength s)) given) in
     let key = key-placed start ep (omega (arith, long, key-most s)) in
     rw (e, given, key)
+
+-- a test and its opposite, as code takes them
+pub fails : {r : Bool} (t : Bool) → r ≡ t → not r ≡ true → t ≡ false
+fails {r} t e h = sym e ∙ not-true r h
+
+pub holds : {r : Bool} (t : Bool) → r ≡ t → not r ≡ false → t ≡ true
+holds {r} t e h = sym e ∙ not-false r h
+
+-- a record that is not well formed, by each of its tests, and what the last says
+pub well-count : (l : Link) → 4096 ≤ l .count → false ≡ wellFormed l
+unfolding wellFormed
+well-count l h = rw (le-ltb (l .count) 4096 h)
+
+pub well-start : {n : ℕ} (l : Link) → n ≡ keyLength (l .strength) → l .count < 4096 → zeros (drop n (l .start)) ≡ false → false ≡ wellFormed l
+unfolding wellFormed
+well-start l e h a = rw (lt-ltb (l .count) 4096 h, ← e, a)
+
+pub well-session : {n : ℕ} (l : Link) → n ≡ keyLength (l .strength) → l .count < 4096 → zeros (drop n (l .start)) ≡ true
+    → zeros (drop n (l .session)) ≡ false → false ≡ wellFormed l
+unfolding wellFormed
+well-session l e h a b = rw (lt-ltb (l .count) 4096 h, ← e, a, b)
+
+pub well-last : {n : ℕ} {r : Bool} (l : Link) → n ≡ keyLength (l .strength) → l .count < 4096 → zeros (drop n (l .start)) ≡ true
+    → zeros (drop n (l .session)) ≡ true → r ≡ begins (headOf (l .strength)) (l .session) → r ≡ wellFormed l
+unfolding wellFormed
+well-last l e h a b last = last ∙ rw (lt-ltb (l .count) 4096 h, ← e, a, b)
+
+-- a well-formed record's count
+pub count-bound : (l : Link) → wellFormed l ≡ true → l .count < 4096
+unfolding wellFormed
+count-bound l h = ltb-true (l .count) 4096 (left (ltb (l .count) 4096) _ h)
+  where
+  left : (a b : Bool) → pick a b false ≡ true → a ≡ true
+  left true b h = refl
+  left false b h = absurd (false≢true h)
+
+-- the ways out of seal's table
+pub seal-record : (limit : ℕ) (l : Link) (plain : List ℕ) (lent : ℕ) → wellFormed l ≡ false → notRecord ≡ sealCode limit l plain lent
+unfolding sealCode
+seal-record limit l plain lent w = rw w
+
+pub seal-short : (limit : ℕ) (l : Link) (plain : List ℕ) (lent : ℕ) → wellFormed l ≡ true → length plain < 2 → size ≡ sealCode limit l plain lent
+unfolding sealCode
+seal-short limit l plain lent w h = rw (w, lt-ltb (length plain) 2 h)
+
+pub seal-long : (limit : ℕ) (l : Link) (plain : List ℕ) (lent : ℕ) → wellFormed l ≡ true → 2 ≤ length plain → limit < length plain
+    → size ≡ sealCode limit l plain lent
+unfolding sealCode
+seal-long limit l plain lent w low h = rw (w, le-ltb (length plain) 2 low, lt-ltb limit (length plain) h)
+
+pub seal-protocol : {r : Bool} (limit : ℕ) (l : Link) (plain : List ℕ) (lent : ℕ) → wellFormed l ≡ true → 2 ≤ length plain → length plain ≤ limit
+    → r ≡ offProtocol plain → r ≡ true → protocol ≡ sealCode limit l plain lent
+unfolding sealCode
+seal-protocol limit l plain lent w low high e t = rw (w, outside-none 2 limit (length plain) low high, sym e ∙ t)
+
+pub seal-room : {r : Bool} (limit : ℕ) (l : Link) (plain : List ℕ) (lent : ℕ) → wellFormed l ≡ true → 2 ≤ length plain → length plain ≤ limit
+    → r ≡ offProtocol plain → r ≡ false → lent < 4 + length plain → room ≡ sealCode limit l plain lent
+unfolding sealCode
+seal-room limit l plain lent w low high e t h = rw (w, outside-none 2 limit (length plain) low high, sym e ∙ t, lt-ltb lent (4 + length plain) h)
+
+pub seal-done : {r : Bool} (limit : ℕ) (l : Link) (plain : List ℕ) (lent : ℕ) → wellFormed l ≡ true → 2 ≤ length plain → length plain ≤ limit
+    → r ≡ offProtocol plain → r ≡ false → 4 + length plain ≤ lent → done ≡ sealCode limit l plain lent
+unfolding sealCode
+seal-done limit l plain lent w low high e t h = rw (w, outside-none 2 limit (length plain) low high, sym e ∙ t, le-ltb lent (4 + length plain) h)
+
+-- the ways out of the rows that a packet decides
+pub packet-short : (limit : ℕ) (packet : List ℕ) → length packet < 6 → shape ≡ packetCode limit packet
+unfolding packetCode
+packet-short limit packet h = rw (lt-ltb (length packet) 6 h)
+
+pub packet-long : (limit : ℕ) (packet : List ℕ) → 6 ≤ length packet → 4 + limit < length packet → shape ≡ packetCode limit packet
+unfolding packetCode
+packet-long limit packet low h = rw (le-ltb (length packet) 6 low, lt-ltb (4 + limit) (length packet) h)
+
+pub packet-other : {p : ℕ} (limit : ℕ) (packet : List ℕ) → 6 ≤ length packet → length packet ≤ 4 + limit → p ≡ pairAt 0 packet → (p ≡ 0x00FD → ⊥)
+    → shape ≡ packetCode limit packet
+unfolding packetCode
+packet-other limit packet low high e h =
+    rw (outside-none 6 (4 + limit) (length packet) low high, ne-eqb (pairAt 0 packet) 0x00FD λ z. h (e ∙ z))
+
+pub packet-flag-A : {p h : ℕ} (limit : ℕ) (packet : List ℕ) → 6 ≤ length packet → length packet ≤ 4 + limit → p ≡ pairAt 0 packet → p ≡ 0x00FD
+    → h ≡ pairAt 2 packet → h / 0x8000 % 2 ≡ 0 → flags ≡ packetCode limit packet
+unfolding packetCode
+packet-flag-A limit packet low high e is eh a =
+    rw
+    (outside-none 6 (4 + limit) (length packet) low high, eq-eqb (pairAt 0 packet) 0x00FD (sym e ∙ is), ← eh, a)
+
+pub packet-flag-D : {p h : ℕ} (limit : ℕ) (packet : List ℕ) → 6 ≤ length packet → length packet ≤ 4 + limit → p ≡ pairAt 0 packet → p ≡ 0x00FD
+    → h ≡ pairAt 2 packet → (h / 0x8000 % 2 ≡ 0 → ⊥) → h / 0x1000 % 2 ≡ 0 → flags ≡ packetCode limit packet
+unfolding packetCode
+packet-flag-D limit packet low high e is eh a d =
+    rw
+    (outside-none 6 (4 + limit) (length packet) low high, eq-eqb (pairAt 0 packet) 0x00FD (sym e ∙ is), ← eh, ne-eqb _ 0 a, d)
+
+pub packet-done : {p h : ℕ} (limit : ℕ) (packet : List ℕ) → 6 ≤ length packet → length packet ≤ 4 + limit → p ≡ pairAt 0 packet → p ≡ 0x00FD
+    → h ≡ pairAt 2 packet → (h / 0x8000 % 2 ≡ 0 → ⊥) → (h / 0x1000 % 2 ≡ 0 → ⊥) → done ≡ packetCode limit packet
+unfolding packetCode
+packet-done limit packet low high e is eh a d =
+    rw
+    (outside-none 6 (4 + limit) (length packet) low high, eq-eqb (pairAt 0 packet) 0x00FD (sym e ∙ is), ← eh, ne-eqb _ 0 a, ne-eqb _ 0 d)
+
+-- the distance, as code works it out from a well-formed record and a packet's header
+pub near-is : {d h : ℕ} (l : Link) (packet : List ℕ) → wellFormed l ≡ true → h ≡ pairAt 2 packet → d ≡ distance (l .count % 4096) (h % 4096 % 4096)
+    → d ≡ changesFor l packet
+near-is {d} {h} l packet w e ed =
+    let last : l .count % 4096 ≡ l .count = omega (arith, count-bound l w) in
+    let once : h % 4096 % 4096 ≡ pairAt 2 packet % 4096 = omega arith in
+    ed ∙ rw (last, once)
+
+-- the ways out of open's table but for its last row
+pub front-record : (limit : ℕ) (l : Link) (packet : List ℕ) (lent : ℕ) → wellFormed l ≡ false → notRecord ≡ frontCode limit l packet lent
+unfolding frontCode
+front-record limit l packet lent w = rw w
+
+pub front-packet : {code : ℕ} (limit : ℕ) (l : Link) (packet : List ℕ) (lent : ℕ) → wellFormed l ≡ true → code ≡ packetCode limit packet
+    → (code ≡ done → ⊥) → code ≡ frontCode limit l packet lent
+unfolding frontCode packetCode
+front-packet limit l packet lent w e h = rw w (e ∙ sym (rows-stop (packetRows limit packet) (laterRows l packet lent) λ z. h (e ∙ z)))
+
+-- what the packet alone decides, passed
+front-later : {code : ℕ} (limit : ℕ) (l : Link) (packet : List ℕ) (lent : ℕ) → wellFormed l ≡ true → code ≡ packetCode limit packet → code ≡ done
+    → firstOf (laterRows l packet lent) ≡ frontCode limit l packet lent
+unfolding frontCode packetCode
+front-later limit l packet lent w e z =
+    rw w (sym (rows-pass (packetRows limit packet) (laterRows l packet lent) (lit≤ tt, (lit≤ tt, (lit≤ tt, (lit≤ tt, tt)))) (sym e ∙ z)))
+
+pub front-repeat : {code d : ℕ} (limit : ℕ) (l : Link) (packet : List ℕ) (lent : ℕ) → wellFormed l ≡ true → code ≡ packetCode limit packet → code ≡ done
+    → d ≡ changesFor l packet → d ≡ 0 → repeat ≡ frontCode limit l packet lent
+front-repeat limit l packet lent w e z ed h = rw (eq-eqb (changesFor l packet) 0 (sym ed ∙ h)) at (front-later limit l packet lent w e z)
+
+pub front-room : {code d : ℕ} (limit : ℕ) (l : Link) (packet : List ℕ) (lent : ℕ) → wellFormed l ≡ true → code ≡ packetCode limit packet → code ≡ done
+    → d ≡ changesFor l packet → (d ≡ 0 → ⊥) → lent < length packet - 4 → room ≡ frontCode limit l packet lent
+front-room limit l packet lent w e z ed h small =
+    rw (ne-eqb (changesFor l packet) 0 λ q. h (ed ∙ q), lt-ltb lent (length packet - 4) small) at (front-later limit l packet lent w e z)
+
+pub front-done : {code d : ℕ} (limit : ℕ) (l : Link) (packet : List ℕ) (lent : ℕ) → wellFormed l ≡ true → code ≡ packetCode limit packet → code ≡ done
+    → d ≡ changesFor l packet → (d ≡ 0 → ⊥) → length packet - 4 ≤ lent → done ≡ frontCode limit l packet lent
+front-done limit l packet lent w e z ed h fits =
+    rw (ne-eqb (changesFor l packet) 0 λ q. h (ed ∙ q), le-ltb lent (length packet - 4) fits) at (front-later limit l packet lent w e z)
+
+-- a packet that its own rows let pass
+pub packet-bounds : {code : ℕ} (limit : ℕ) (packet : List ℕ) → code ≡ packetCode limit packet → code ≡ done → (6 ≤ length packet) × (length packet ≤ 4 + limit)
+unfolding packetCode
+packet-bounds limit packet e z =
+    within 6 (4 + limit) (length packet) (rows-none (packetRows limit packet) (lit≤ tt, (lit≤ tt, (lit≤ tt, (lit≤ tt, tt)))) (sym e ∙ z) .0)

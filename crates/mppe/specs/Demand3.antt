@@ -18,7 +18,7 @@ use Rattle.mppe_keys.specs.Keys.{keyLength, headOf, initialKey, rc4, keyChange,
 use Rattle.mppe_keys.specs.Laws.{initialKey-length, initialKey-head, changes-length, changes-head, changes-add}
 use Rattle.mppe.specs.declared.Link.{Link}
 use Rattle.mppe.specs.Link.{longestPlain, wellFormed, startKeyIn, sessionKeyIn, renewed, nextKey, nextCount, linkOf, newLink, newLinkCode, pairAt, offProtocol, bitA, bitD, lacks, sealedPacket, countIn, distance, Result, finished, refusal, plainRows, sealCode, sealResult, changesFor, keyFor, plainFor, openCode, openResult}
-use Rattle.mppe.specs.Laws.{within, outside-none, key-back, well, sealed-length, sealed-count, sealed-A, sealed-D, distance-is}
+use Rattle.mppe.specs.Laws.{rows-none, within, outside-none, key-back, well, sealed-length, sealed-count, sealed-A, sealed-D, distance-is}
 use Rattle.mppe.specs.Run.{mostLost, SealCall, OpenCall, arrival, other, Packet, History, sealRun, openRun, saidCode, first, beginning, packetOf, onward, packets, said, numbered, Meets, due, Demand3}
 
 -- both ends as they are when m packets are sealed: the session key, the record, the history
@@ -148,12 +148,9 @@ AllAt limit s start m (p ∷ ps) = IsAt limit s start m p × AllAt limit s start
 
 sealable : (limit : ℕ) (c : SealCall) → saidCode limit c ≡ done → Sealable limit (c .plain)
 unfolding saidCode
-sealable limit c e = rows (outside 2 limit (length (c .plain))) (offProtocol (c .plain)) (ltb (length (c .room)) (4 + length (c .plain))) e
-  where
-  rows : (a b t : Bool) → firstOf ((size, a) ∷ (protocol, b) ∷ (room, t) ∷ []) ≡ done → (a ≡ false) × (b ≡ false)
-  rows true b t e = absurd (omega arith)
-  rows false true t e = absurd (omega arith)
-  rows false false t e = (refl, refl)
+sealable limit c e =
+    let none = rows-none (plainRows limit (c .plain) (length (c .room))) (lit≤ tt, (lit≤ tt, (lit≤ tt, tt))) e in
+    (none .0, none .1 .0)
 
 packets-on : (limit : ℕ) (s : Strength) (start : List ℕ) (m code : ℕ) (c : SealCall) (cs : List SealCall) → saidCode limit c ≡ code
     → ((n : ℕ) → AllAt limit s start n (packets limit s start (historyAt s start n) cs))

@@ -8,12 +8,36 @@ use lib.Dec.{ltb}
 use lib.ListN.{length, take, drop, getD, replicate, length-append}
 use lib.Seq.{take-append-seam, drop-append-seam}
 use borrow.Author.Tests.{lt-ltb, le-ltb, ltb-false, eq-eqb}
-use Rattle.answer.specs.Answer.{pick, outside}
+use Rattle.answer.specs.Answer.{done, pick, outside, firstOf}
 use Rattle.rc4.specs.Cipher.{keySchedule}
 use Rattle.rc4.specs.Laws.{run-length}
 use Rattle.mppe_keys.specs.declared.Strength.{Strength}
 use Rattle.mppe_keys.specs.Keys.{keyLength, headOf, placed}
 use Rattle.mppe.specs.Link.{zeros, begins, wellFormed, linkOf, bitA, bitD, sealedPacket, pairAt, countIn, lacks, distance}
+
+-- rows whose numbers are refusals: where none of them applies those behind decide, and otherwise the first of them that does
+abbrev pub Refusals : List (ℕ × Bool) → Type 0
+Refusals [] = Unit {0}
+Refusals (row ∷ rows) = (1 ≤ row .0) × Refusals rows
+
+abbrev pub NoneApplies : List (ℕ × Bool) → Type 0
+NoneApplies [] = Unit {0}
+NoneApplies (row ∷ rows) = (row .1 ≡ false) × NoneApplies rows
+
+pub rows-none : (rows : List (ℕ × Bool)) → Refusals rows → firstOf rows ≡ done → NoneApplies rows
+rows-none [] all e = tt
+rows-none ((n, true) ∷ rows) (some, all) e = absurd (omega arith)
+rows-none ((n, false) ∷ rows) (some, all) e = (refl, rows-none rows all e)
+
+pub rows-pass : (rows rest : List (ℕ × Bool)) → Refusals rows → firstOf rows ≡ done → firstOf (rows ++ rest) ≡ firstOf rest
+rows-pass [] rest all e = refl
+rows-pass ((n, true) ∷ rows) rest (some, all) e = absurd (omega arith)
+rows-pass ((n, false) ∷ rows) rest (some, all) e = rows-pass rows rest all e
+
+pub rows-stop : (rows rest : List (ℕ × Bool)) → (firstOf rows ≡ done → ⊥) → firstOf (rows ++ rest) ≡ firstOf rows
+rows-stop [] rest e = absurd (e refl)
+rows-stop ((n, true) ∷ rows) rest e = refl
+rows-stop ((n, false) ∷ rows) rest e = rows-stop rows rest e
 
 -- a number that is not outside its limits, and one within them
 pub within : (low high n : ℕ) → outside low high n ≡ false → (low ≤ n) × (n ≤ high)

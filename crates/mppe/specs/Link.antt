@@ -161,18 +161,25 @@ keyFor l packet = changes (l .strength) (startKeyIn l) (changesFor l packet) (se
 unfoldable pub plainFor : Link → List ℕ → List ℕ
 plainFor l packet = rc4 (keyFor l packet) (drop front packet)
 
--- the rows of open's table that the record, the packet's front and the lengths decide: 7, 1, 5, 6, 2, with two ways to have a wrong
--- shape and two to lack a flag
-abbrev pub frontRows : ℕ → Link → List ℕ → ℕ → List (ℕ × Bool)
-frontRows limit l packet lent =
-    (notRecord, not (wellFormed l))
-    ∷ (shape, outside (front + shortestPlain) (front + limit) (length packet))
+-- the rows of open's table that the packet alone decides: 1, 5, with two ways to have a wrong shape and two to lack a flag
+abbrev pub packetRows : ℕ → List ℕ → List (ℕ × Bool)
+packetRows limit packet =
+    (shape, outside (front + shortestPlain) (front + limit) (length packet))
     ∷ (shape, not (eqb (pairAt 0 packet) 0x00FD))
     ∷ (flags, lacks bitA packet)
     ∷ (flags, lacks bitD packet)
-    ∷ (repeat, eqb (changesFor l packet) 0)
-    ∷ (room, ltb lent (length packet - front))
     ∷ []
+
+unfoldable pub packetCode : ℕ → List ℕ → ℕ
+packetCode limit packet = firstOf (packetRows limit packet)
+
+-- those that the record and the length of the lent buffer decide with it: 6, 2
+abbrev pub laterRows : Link → List ℕ → ℕ → List (ℕ × Bool)
+laterRows l packet lent = (repeat, eqb (changesFor l packet) 0) ∷ (room, ltb lent (length packet - front)) ∷ []
+
+-- all rows but the last, for which the packet must be deciphered: 7, 1, 5, 6, 2
+abbrev pub frontRows : ℕ → Link → List ℕ → ℕ → List (ℕ × Bool)
+frontRows limit l packet lent = (notRecord, not (wellFormed l)) ∷ packetRows limit packet ++ laterRows l packet lent
 
 unfoldable pub frontCode : ℕ → Link → List ℕ → ℕ → ℕ
 frontCode limit l packet lent = firstOf (frontRows limit l packet lent)

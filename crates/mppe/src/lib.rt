@@ -7,7 +7,7 @@ ghost use Rattle.answer.specs.Answer.{outside, firstOf};
 ghost use Rattle.octets.specs.Octets.{written, longestText};
 ghost use Rattle.rc4.specs.Cipher.{keySchedule, run};
 ghost use Rattle.mppe_keys.specs.Keys.{keyLength, headOf, changes as changesOf};
-ghost use Rattle.mppe.specs.Link.{longestPlain, zeros, begins, wellFormed, newLink, startKeyIn, sessionKeyIn, renewed, offProtocol, header, distance as distanceOf, refusal, sealCode, sealResult, frontCode, openResult};
+ghost use Rattle.mppe.specs.Link.{longestPlain, zeros, begins, wellFormed, newLink, startKeyIn, sessionKeyIn, renewed, offProtocol, header, distance as distanceOf, refusal, sealCode, sealResult, packetCode, frontCode, openResult};
 use mppe_keys::Strength;
 use mppe_keys::key_length;
 use rc4::Rc4;
@@ -165,13 +165,30 @@ fn seal_code(link: Link, plain: &[u8], room: usize) -> u8
     answer::DONE
 }
 
-// The number that open answers by all rows but the last, which needs the packet deciphered.
+// The number that open answers by all rows but the last, for which the packet must be deciphered.
 fn front_code(link: Link, packet: &[u8], room: usize) -> u8
     ensures { λ r. ⌜ r ≡ frontCode longestPlain link (now (packet .entry)) room ⌝ }
 {
     if !well_formed(link) {
         return answer::RECORD;
     }
+    let code = packet_code(packet);
+    if code != answer::DONE {
+        return code;
+    }
+    if distance(link.count, pair(packet[2], packet[3]) % COUNTS) == 0 {
+        return answer::REPEAT;
+    }
+    if room < packet.len() - FRONT {
+        return answer::ROOM;
+    }
+    answer::DONE
+}
+
+// The number that open answers by the rows that the packet alone decides.
+fn packet_code(packet: &[u8]) -> u8
+    ensures { λ r. ⌜ r ≡ packetCode longestPlain (now (packet .entry)) ⌝ }
+{
     if packet.len() < FRONT + SHORTEST_PLAIN {
         return answer::SHAPE;
     }
@@ -187,12 +204,6 @@ fn front_code(link: Link, packet: &[u8], room: usize) -> u8
     }
     if header / BIT_D % 2 == 0 {
         return answer::FLAGS;
-    }
-    if distance(link.count, header % COUNTS) == 0 {
-        return answer::REPEAT;
-    }
-    if room < packet.len() - FRONT {
-        return answer::ROOM;
     }
     answer::DONE
 }

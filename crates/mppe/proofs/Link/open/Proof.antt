@@ -1,0 +1,102 @@
+use borrow.Author.Needs.{needs}
+use Rattle.mppe.proofs.Link.open.Statement.{statement}
+use Rattle.mppe.proofs.Link.open.Tie as tie
+use Rattle.mppe.proofs.Link.open.Reads as reads
+use Rattle.mppe.proofs.Link.open.Lts as lts
+use Rattle.mppe.proofs.cipher_of.Reads as cipher-of-reads
+use Rattle.mppe.proofs.distance.Reads as distance-reads
+use Rattle.mppe.proofs.front_code.Reads as front-code-reads
+use Rattle.mppe.proofs.moved.Reads as moved-reads
+use Rattle.mppe.proofs.pair.Reads as pair-reads
+use Rattle.mppe.proofs.refused.Reads as refused-reads
+use Rattle.mppe.proofs.runs_off_protocol.Reads as runs-off-protocol-reads
+use Rattle.rc4.proofs.Rc4.run.Reads as run-reads
+
+front-code-requires : tie.Need-front-code-requires
+front-code-requires c κs = search needs
+
+refused-requires : tie.Need-refused-requires
+refused-requires c κs = search needs
+
+returns : tie.Need-returns
+returns c = search needs
+
+shared-slice-read-pair : tie.Need-shared-slice-read-pair
+shared-slice-read-pair c = search needs
+
+shared-slice-read-pair-2 : tie.Need-shared-slice-read-pair-2
+shared-slice-read-pair-2 c = search needs
+
+pair-requires : tie.Need-pair-requires
+pair-requires c κs = search needs
+
+distance-requires : tie.Need-distance-requires
+distance-requires c κs = search needs
+
+moved-requires : tie.Need-moved-requires
+moved-requires c κs = search needs
+
+cipher-of-requires : tie.Need-cipher-of-requires
+cipher-of-requires c κs = search needs
+
+sub-runs-off-protocol : tie.Need-sub-runs-off-protocol
+sub-runs-off-protocol c = search needs
+
+part-runs-off-protocol-start : tie.Need-part-runs-off-protocol-start
+part-runs-off-protocol-start c = search needs
+
+part-runs-off-protocol-end : tie.Need-part-runs-off-protocol-end
+part-runs-off-protocol-end c = search needs
+
+runs-off-protocol-requires : tie.Need-runs-off-protocol-requires
+runs-off-protocol-requires c κs = search needs
+
+refused-requires-2 : tie.Need-refused-requires-2
+refused-requires-2 c κs = search needs
+
+returns-2 : tie.Need-returns-2
+returns-2 c = search needs
+
+sub-run : tie.Need-sub-run
+sub-run c = search needs
+
+part-run-start : tie.Need-part-run-start
+part-run-start c = search needs
+
+part-run-end : tie.Need-part-run-end
+part-run-end c = search needs
+
+run-requires : tie.Need-run-requires
+run-requires c κs = search needs
+
+same-length : tie.Need-same-length
+same-length c = search needs
+
+returns-3 : tie.Need-returns-3
+returns-3 c = search needs
+
+pub open-spec : {M : Type 1} → statement M
+open-spec =
+    tie.close
+    (tie.spec
+    front-code-requires
+    refused-requires
+    returns
+    shared-slice-read-pair
+    shared-slice-read-pair-2
+    pair-requires
+    distance-requires
+    moved-requires
+    cipher-of-requires
+    sub-runs-off-protocol
+    part-runs-off-protocol-start
+    part-runs-off-protocol-end
+    runs-off-protocol-requires
+    refused-requires-2
+    returns-2
+    sub-run
+    part-run-start
+    part-run-end
+    run-requires
+    same-length
+    returns-3)

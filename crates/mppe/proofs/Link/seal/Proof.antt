@@ -1,0 +1,69 @@
+use borrow.Author.Needs.{needs}
+use Rattle.mppe.proofs.Link.seal.Statement.{statement}
+use Rattle.mppe.proofs.Link.seal.Tie as tie
+use Rattle.mppe.proofs.Link.seal.Reads as reads
+use Rattle.mppe.proofs.Link.seal.Lts as lts
+use Rattle.mppe.proofs.cipher_of.Reads as cipher-of-reads
+use Rattle.mppe.proofs.moved.Reads as moved-reads
+use Rattle.mppe.proofs.next_count.Reads as next-count-reads
+use Rattle.mppe.proofs.put_front.Reads as put-front-reads
+use Rattle.mppe.proofs.refused.Reads as refused-reads
+use Rattle.mppe.proofs.seal_code.Reads as seal-code-reads
+use Rattle.rc4.proofs.Rc4.run.Reads as run-reads
+
+seal-code-requires : tie.Need-seal-code-requires
+seal-code-requires c κs = search needs
+
+refused-requires : tie.Need-refused-requires
+refused-requires c κs = search needs
+
+returns : tie.Need-returns
+returns c = search needs
+
+next-count-requires : tie.Need-next-count-requires
+next-count-requires c κs = search needs
+
+moved-requires : tie.Need-moved-requires
+moved-requires c κs = search needs
+
+put-front-requires : tie.Need-put-front-requires
+put-front-requires c κs = search needs
+
+cipher-of-requires : tie.Need-cipher-of-requires
+cipher-of-requires c κs = search needs
+
+sub-run : tie.Need-sub-run
+sub-run c = search needs
+
+part-run-start : tie.Need-part-run-start
+part-run-start c = search needs
+
+part-run-end : tie.Need-part-run-end
+part-run-end c = search needs
+
+run-requires : tie.Need-run-requires
+run-requires c κs = search needs
+
+same-length : tie.Need-same-length
+same-length c = search needs
+
+returns-2 : tie.Need-returns-2
+returns-2 c = search needs
+
+pub seal-spec : {M : Type 1} → statement M
+seal-spec =
+    tie.close
+    (tie.spec
+    seal-code-requires
+    refused-requires
+    returns
+    next-count-requires
+    moved-requires
+    put-front-requires
+    cipher-of-requires
+    sub-run
+    part-run-start
+    part-run-end
+    run-requires
+    same-length
+    returns-2)

@@ -1,0 +1,46 @@
+use Rattle.mppe.proofs.Laws.{fails, holds, well-count, well-start, well-session, well-last}
+use borrow.Author.Needs.{needs}
+use Rattle.mppe.proofs.well_formed.Statement.{statement}
+use Rattle.mppe.proofs.well_formed.Tie as tie
+use Rattle.mppe.proofs.well_formed.Reads as reads
+use Rattle.mppe.proofs.well_formed.Lts as lts
+use Rattle.mppe.proofs.begins_reduced.Reads as begins-reduced-reads
+use Rattle.mppe.proofs.zeros_from.Reads as zeros-from-reads
+use Rattle.mppe_keys.proofs.key_length.Reads as key-length-reads
+
+returns : tie.Need-returns
+returns c = well-count (c .before .before .args .link) (c .if1 .taken)
+
+key-length-requires : tie.Need-key-length-requires
+key-length-requires c κs = search needs
+
+zeros-from-requires : tie.Need-zeros-from-requires
+zeros-from-requires c κs = search needs
+
+returns-2 : tie.Need-returns-2
+returns-2 c = well-start (c .before .before .before .before .before .before .args .link) (c .before .before .before .key-length .ensures) (c .before .before .before .before .if1 .left) (fails _ (c .before .zeros-from .ensures) (c .if2 .taken))
+
+zeros-from-requires-2 : tie.Need-zeros-from-requires-2
+zeros-from-requires-2 c κs = search needs
+
+returns-3 : tie.Need-returns-3
+returns-3 c = well-session (c .before .before .before .before .before .before .before .before .before .args .link) (c .before .before .before .before .before .before .key-length .ensures) (c .before .before .before .before .before .before .before .if1 .left) (holds _ (c .before .before .before .before .zeros-from .ensures) (c .before .before .before .if2 .left)) (fails _ (c .before .zeros-from2 .ensures) (c .if3 .taken))
+
+begins-reduced-requires : tie.Need-begins-reduced-requires
+begins-reduced-requires c κs = search needs
+
+returns-4 : tie.Need-returns-4
+returns-4 c = well-last (c .before .before .before .before .before .before .before .before .before .before .args .link) (c .before .before .before .before .before .before .before .key-length .ensures) (c .before .before .before .before .before .before .before .before .if1 .left) (holds _ (c .before .before .before .before .before .zeros-from .ensures) (c .before .before .before .before .if2 .left)) (holds _ (c .before .before .zeros-from2 .ensures) (c .before .if3 .left)) (c .begins-reduced .ensures)
+
+pub well-formed-spec : {M : Type 1} → statement M
+well-formed-spec =
+    tie.close
+    (tie.spec
+    returns
+    key-length-requires
+    zeros-from-requires
+    returns-2
+    zeros-from-requires-2
+    returns-3
+    begins-reduced-requires
+    returns-4)
