@@ -1,16 +1,17 @@
 -- The ways out of the link's functions, over plain lists and numbers.
 use mathlib.Core.Path.{_≡_, refl, sym, ap, _∙_}
 use mathlib.Core.Bool.{Bool, true, false, not, false≢true}
-use mathlib.Core.List.{List, [], _∷_, _++_}
+use mathlib.Core.List.{List, [], _∷_, _++_, append-assoc, append-nil}
 use Prim.Native.Nat.{ℕ, zero, suc, _+_, _*_, _-_, _/_, _%_, _^_, _<_, _≤_}
 use native.Mathlib.Numerals.{add-one}
 use native.Mathlib.Omega.{arith}
 use lib.Dec.{eqb, ltb, lit≤}
-use lib.ListN.{length, take, drop, getD, replicate, drop-of-length-le}
-use lib.Seq.{drop-cons, take-all, length-take-le}
-use borrow.Author.Tests.{lt-ltb, le-ltb, eq-eqb, ne-eqb, ltb-true, eqb-true, not-true, not-false}
-use Rattle.answer.specs.Answer.{done, shape, room, size, protocol, flags, repeat, notRecord, pick, outside, firstOf}
-use Rattle.octets.specs.Octets.{written}
+use lib.ListN.{length, take, drop, getD, replicate, drop-of-length-le, length-append, length-drop}
+use lib.Seq.{drop-cons, drop-drop, drop-length, take-all, take-at, drop-at, length-take-le}
+use borrow.Author.Tests.{lt-ltb, le-ltb, eq-eqb, ne-eqb, ltb-true, ltb-false, eqb-true, eqb-false, not-true, not-false}
+use borrow.Rule.Slice.PartMut.{putMid}
+use Rattle.answer.specs.Answer.{done, shape, room, size, protocol, flags, repeat, notRecord, pick, outside, firstOf, onDone}
+use Rattle.octets.specs.Octets.{written, longestText}
 use Rattle.rc4.specs.declared.Rc4.{Rc4}
 use Rattle.rc4.specs.declared.Keyed.{Keyed}
 use Rattle.rc4.specs.Cipher.{keySchedule, run}
@@ -18,14 +19,15 @@ use Rattle.rc4.specs.Answers.{keyedAnswer, runOut}
 use Rattle.rc4.specs.Laws.{keyed-done, run-done}
 use Rattle.mppe_keys.specs.declared.Strength.{Strength}
 use Rattle.mppe_keys.specs.declared.Key.{Key}
-use Rattle.mppe_keys.specs.Keys.{keyLength, headOf, changes, placed, initialKey}
+use Rattle.mppe_keys.specs.Keys.{keyLength, headOf, changes, placed, initialKey, rc4}
 use Rattle.mppe_keys.specs.Answers.{keyAnswer, oneCode, initialKeyAnswer, placedChanges}
-use Rattle.mppe_keys.specs.Laws.{key-least, key-most}
+use Rattle.mppe_keys.specs.Laws.{key-least, key-most, keyChange-length, changes-one}
 use Rattle.mppe_keys.proofs.Laws.{key-placed}
 use Rattle.mppe.specs.declared.Link.{Link}
 use Rattle.mppe.specs.declared.NewLink.{NewLink}
-use Rattle.mppe.specs.Link.{zeros, begins, wellFormed, startKeyIn, sessionKeyIn, renewed, linkOf, newLink, newLinkCode, pairAt, offProtocol, bitA, bitD, header, countIn, distance, changesFor, sealCode, packetRows, packetCode, laterRows, frontRows, frontCode}
-use Rattle.mppe.specs.Laws.{rows-none, rows-pass, rows-stop, within, outside-none}
+use Rattle.mppe.specs.declared.Outcome.{Outcome}
+use Rattle.mppe.specs.Link.{longestPlain, zeros, begins, wellFormed, startKeyIn, sessionKeyIn, renewed, linkOf, newLink, newLinkCode, pairAt, offProtocol, bitA, bitD, header, countIn, sealedPacket, distance, refusal, plainRows, nextCount, nextKey, changesFor, sealCode, sealResult, packetRows, packetCode, laterRows, frontRows, frontCode, keyFor, plainFor, openCode, openResult}
+use Rattle.mppe.specs.Laws.{rows-none, rows-pass, rows-stop, within, outside-none, key-back}
 
 -- one place more that is 0, one that is not, and the end of the places
 pub zeros-more : {b : Bool} (l : List ℕ) (i : ℕ) → b ≡ zeros (drop i l) → getD l i 0 ≡ 0 → i < length l → b ≡ zeros (drop (i + 1) l)
@@ -169,9 +171,9 @@ pub count-bound : (l : Link) → wellFormed l ≡ true → l .count < 4096
 unfolding wellFormed
 count-bound l h = ltb-true (l .count) 4096 (left (ltb (l .count) 4096) _ h)
   where
-  left : (a b : Bool) → pick a b false ≡ true → a ≡ true
-  left true b h = refl
-  left false b h = absurd (false≢true h)
+    left : (a b : Bool) → pick a b false ≡ true → a ≡ true
+    left true b h = refl
+    left false b h = absurd (false≢true h)
 
 -- the ways out of seal's table
 pub seal-record : (limit : ℕ) (l : Link) (plain : List ℕ) (lent : ℕ) → wellFormed l ≡ false → notRecord ≡ sealCode limit l plain lent
@@ -282,3 +284,158 @@ pub packet-bounds : {code : ℕ} (limit : ℕ) (packet : List ℕ) → code ≡ 
 unfolding packetCode
 packet-bounds limit packet e z =
     within 6 (4 + limit) (length packet) (rows-none (packetRows limit packet) (lit≤ tt, (lit≤ tt, (lit≤ tt, (lit≤ tt, tt)))) (sym e ∙ z) .0)
+
+-- an answer that is not 0 gives what a refusal has
+not-done : {A : Type 0} (result other : A) (code : ℕ) → (code ≡ done → ⊥) → onDone code result other ≡ other
+not-done result other zero h = absurd (h refl)
+not-done result other (suc n) h = refl
+
+-- a refused seal, and one that is done
+pub seal-refused : {code : ℕ} {r : Outcome} (limit : ℕ) (l : Link) (plain out : List ℕ) → code ≡ sealCode limit l plain (length out) → (code ≡ done → ⊥)
+    → r ≡ refusal code l [] .outcome → (r ≡ sealResult limit l plain out .outcome) × (out ≡ sealResult limit l plain out .buffer)
+unfolding sealResult
+seal-refused limit l plain out e h er =
+    let no : sealResult limit l plain out ≡ refusal (sealCode limit l plain (length out)) l out =
+    not-done _ (refusal (sealCode limit l plain (length out)) l out) (sealCode limit l plain (length out)) λ z. h (e ∙ z) in
+    rw (no, er, e) (refl, refl)
+
+-- a plain packet that seal's table lets pass
+pub seal-bounds : {code : ℕ} (limit : ℕ) (l : Link) (plain : List ℕ) (lent : ℕ) → code ≡ sealCode limit l plain lent → code ≡ done
+    → (length plain ≤ limit) × (4 + length plain ≤ lent)
+unfolding sealCode
+seal-bounds limit l plain lent e z =
+    let none = rows-none ((notRecord, not (wellFormed l)) ∷ plainRows limit plain lent) (lit≤ tt, (lit≤ tt, (lit≤ tt, (lit≤ tt, tt)))) (sym e ∙ z) in
+    (within 2 limit (length plain) (none .1 .0) .1, ltb-false lent (4 + length plain) (none .1 .1 .1 .0))
+
+-- the part of a buffer behind a front that was put there
+part-behind : {out₁ : List ℕ} (head out : List ℕ) → out₁ ≡ written head out → length head ≡ 4
+    → (drop 4 out₁ ≡ drop 4 out) × (length out₁ - 4 ≡ length (drop 4 out))
+part-behind {out₁} head out e h =
+    let part : drop 4 out₁ ≡ drop 4 out = ap (drop 4) e ∙ drop-at head (drop (length head) out) 4 h ∙ ap (λ (n : ℕ). drop n out) h in
+    (part, sym (length-drop 4 out₁) ∙ ap (λ (m : List ℕ). length m) part)
+
+-- there is such a part
+pub front-long : {out₁ : List ℕ} (count : ℕ) (out : List ℕ) → out₁ ≡ written (0x00 ∷ 0xFD ∷ header count) out → 4 ≤ length out₁
+front-long count out e = rw e (omega arith)
+
+-- a text put there
+behind-put : {out₁ ys : List ℕ} (head text out : List ℕ) → out₁ ≡ written head out → ys ≡ written text (drop 4 out) → length head ≡ 4
+    → putMid 4 (length out₁ - 4) out₁ ys ≡ written (head ++ text) out
+behind-put {out₁} head text out e ey h =
+    let (part, long) = part-behind head out e h in
+    let lead : take 4 out₁ ≡ head = ap (take 4) e ∙ take-at head (drop (length head) out) 4 h in
+    rw
+    (ey, lead, part, long, drop-length (drop 4 out), append-nil, append-assoc, length-append head text, h, drop-drop (length text) 4 out)
+
+pub seal-finished : {code count : ℕ} {next : Link} {cipher : Rc4} {out₁ ys : List ℕ} (l : Link) (plain out : List ℕ)
+    → code ≡ sealCode longestPlain l plain (length out) → code ≡ done → count ≡ (l .count + 1) % 4096
+    → next ≡ renewed l (changes (l .strength) (startKeyIn l) 1 (sessionKeyIn l)) count → out₁ ≡ written (0x00 ∷ 0xFD ∷ header count) out
+    → cipher ≡ keySchedule (take (keyLength (next .strength)) (next .session)) → ys ≡ runOut cipher plain (take (length out₁ - 4) (drop 4 out₁))
+    → (record { answer = done; changes = 1; link = next } ≡ sealResult longestPlain l plain out .outcome)
+    × (putMid 4 (length out₁ - 4) out₁ ys ≡ sealResult longestPlain l plain out .buffer)
+unfolding sealResult sealedPacket
+seal-finished {code} {count} {next} {cipher} {out₁} {ys} l plain out e z ec en eo eci ey =
+    let key : List ℕ = nextKey l in
+    let bounds = seal-bounds longestPlain l plain (length out) e z in
+    let is : next ≡ renewed l key (nextCount l) = en ∙ rw (changes-one (l .strength) (startKeyIn l) (sessionKeyIn l), ec) in
+    let keyed : cipher ≡ keySchedule key = eci ∙ rw (is, key-back (l .strength) key (keyChange-length (l .strength) (startKeyIn l) (sessionKeyIn l))) in
+    let head : List ℕ = 0x00 ∷ 0xFD ∷ header (nextCount l) in
+    let eh : out₁ ≡ written head out = eo ∙ rw ec in
+    let (part, long) = part-behind head out eh refl in
+    let room = length-drop 4 out in
+    let run-is : ys ≡ written (rc4 key plain) (drop 4 out) =
+    ey ∙ rw (part, long, take-all (length (drop 4 out)) (drop 4 out) (omega arith), keyed, run-done (keySchedule key) plain (drop 4 out) (omega arith) (omega arith) .1) in
+    rw (← e, z, is) (refl, behind-put head (rc4 key plain) out eh run-is refl)
+
+-- a packet and a record that all rows but the last let pass
+pub front-passed : {code : ℕ} (limit : ℕ) (l : Link) (packet : List ℕ) (lent : ℕ) → code ≡ frontCode limit l packet lent → code ≡ done
+    → (wellFormed l ≡ true) × (6 ≤ length packet) × (length packet ≤ 4 + limit) × (length packet - 4 ≤ lent)
+    × (changesFor l packet ≡ 0 → ⊥)
+unfolding frontCode
+front-passed limit l packet lent e z =
+    let none = rows-none (frontRows limit l packet lent) (lit≤ tt, (lit≤ tt, (lit≤ tt, (lit≤ tt, (lit≤ tt, (lit≤ tt, (lit≤ tt, tt))))))) (sym e ∙ z) in
+    let bounds = within 6 (4 + limit) (length packet) (none .1 .0) in
+    (not-false (wellFormed l) (none .0), bounds .0, bounds .1, ltb-false lent (length packet - 4) (none .1 .1 .1 .1 .1 .1 .0), eqb-false (changesFor l packet) 0 (none .1 .1 .1 .1 .1 .0))
+
+-- .. leave the last row to decide
+last-row : {code : ℕ} (limit : ℕ) (l : Link) (packet : List ℕ) (lent : ℕ) → code ≡ frontCode limit l packet lent → code ≡ done
+    → openCode limit l packet lent ≡ firstOf ((protocol, offProtocol (plainFor l packet)) ∷ [])
+unfolding frontCode openCode
+last-row limit l packet lent e z =
+    rows-pass (frontRows limit l packet lent) ((protocol, offProtocol (plainFor l packet)) ∷ [])
+    (lit≤ tt, (lit≤ tt, (lit≤ tt, (lit≤ tt, (lit≤ tt, (lit≤ tt, (lit≤ tt, tt))))))) (sym e ∙ z)
+
+-- a refusal hands back record and buffer
+open-no : {code : ℕ} {r : Outcome} (limit : ℕ) (l : Link) (packet out : List ℕ) → code ≡ openCode limit l packet (length out) → (code ≡ done → ⊥)
+    → r ≡ refusal code l [] .outcome → (r ≡ openResult limit l packet out .outcome) × (out ≡ openResult limit l packet out .buffer)
+unfolding openResult
+open-no limit l packet out e h er =
+    let no : openResult limit l packet out ≡ refusal (openCode limit l packet (length out)) l out =
+    not-done _ (refusal (openCode limit l packet (length out)) l out) (openCode limit l packet (length out)) λ z. h (e ∙ z) in
+    rw (no, er, e) (refl, refl)
+
+-- an open refused by a row before the last
+pub open-refused : {code : ℕ} {r : Outcome} (limit : ℕ) (l : Link) (packet out : List ℕ) → code ≡ frontCode limit l packet (length out) → (code ≡ done → ⊥)
+    → r ≡ refusal code l [] .outcome → (r ≡ openResult limit l packet out .outcome) × (out ≡ openResult limit l packet out .buffer)
+open-refused limit l packet out e h er =
+    let same : openCode limit l packet (length out) ≡ frontCode limit l packet (length out) =
+    unfold openCode frontCode in rows-stop (frontRows limit l packet (length out)) ((protocol, offProtocol (plainFor l packet)) ∷ []) (λ z. h (e ∙ z)) in
+    open-no limit l packet out (e ∙ sym same) h er
+
+-- a key that is changed at least once has its strength's octets
+changed-length : (s : Strength) (start session : List ℕ) (n : ℕ) → (n ≡ 0 → ⊥) → length (changes s start n session) ≡ keyLength s
+unfolding changes
+changed-length s start session zero h = absurd (h refl)
+changed-length s start session (suc n) h = keyChange-length s start (changes s start n session)
+
+-- what code works out of a packet that they let pass
+abbrev pub Worked : Link → List ℕ → ℕ → ℕ → ℕ → Link → Rc4 → Type 0
+Worked l packet h count d next cipher =
+    (h ≡ pairAt 2 packet) × (count ≡ h % 4096) × (d ≡ distance (l .count % 4096) (count % 4096))
+    × (next ≡ renewed l (changes (l .strength) (startKeyIn l) d (sessionKeyIn l)) count) × (cipher ≡ keySchedule (take (keyLength (next .strength)) (next .session)))
+
+worked-is : {code h count d : ℕ} {next : Link} {cipher : Rc4} (limit : ℕ) (l : Link) (packet : List ℕ) (lent : ℕ) → code ≡ frontCode limit l packet lent
+    → code ≡ done → Worked l packet h count d next cipher
+    → (d ≡ changesFor l packet) × (next ≡ renewed l (keyFor l packet) (countIn packet)) × (run cipher (take (length packet - 4) (drop 4 packet)) ≡ plainFor l packet)
+unfolding keyFor plainFor
+worked-is {code} {h} {count} {d} {next} {cipher} limit l packet lent e z (eh, ec, ed, en, eci) =
+    let (w, low, high, room, new) = front-passed limit l packet lent e z in
+    let counted : count ≡ countIn packet = ec ∙ ap (λ (n : ℕ). n % 4096) eh in
+    let near : d ≡ changesFor l packet = near-is l packet w eh (ed ∙ rw ec) in
+    let is : next ≡ renewed l (keyFor l packet) (countIn packet) = en ∙ rw (near, counted) in
+    let long = changed-length (l .strength) (startKeyIn l) (sessionKeyIn l) (changesFor l packet) new in
+    let keyed : cipher ≡ keySchedule (keyFor l packet) = eci ∙ rw (is, key-back (l .strength) (keyFor l packet) long) in
+    let all : take (length packet - 4) (drop 4 packet) ≡ drop 4 packet = take-all (length packet - 4) (drop 4 packet) (omega (arith, length-drop 4 packet)) in
+    (near, is, rw (all, keyed))
+
+-- an open refused by the last row
+pub open-off : {code h count d : ℕ} {next : Link} {cipher : Rc4} {off : Bool} {r : Outcome} (limit : ℕ) (l : Link) (packet out : List ℕ)
+    → code ≡ frontCode limit l packet (length out) → code ≡ done → Worked l packet h count d next cipher
+    → off ≡ offProtocol (run cipher (take (length packet - 4) (drop 4 packet))) → off ≡ true → r ≡ refusal protocol l [] .outcome
+    → (r ≡ openResult limit l packet out .outcome) × (out ≡ openResult limit l packet out .buffer)
+open-off limit l packet out e z made eo t er =
+    let (near, is, text) = worked-is limit l packet (length out) e z made in
+    let off : offProtocol (plainFor l packet) ≡ true = rw (← text) (sym eo ∙ t) in
+    let code : protocol ≡ openCode limit l packet (length out) = sym (last-row limit l packet (length out) e z ∙ rw off) in
+    open-no limit l packet out code (λ q. omega (arith, q)) er
+
+-- an open that is done
+pub open-finished : {code h count d : ℕ} {next : Link} {cipher : Rc4} {off : Bool} {out₁ : List ℕ} (limit : ℕ) (l : Link) (packet out : List ℕ)
+    → code ≡ frontCode limit l packet (length out) → code ≡ done → Worked l packet h count d next cipher
+    → off ≡ offProtocol (run cipher (take (length packet - 4) (drop 4 packet))) → off ≡ false
+    → out₁ ≡ runOut cipher (take (length packet - 4) (drop 4 packet)) out → limit ≤ longestText
+    → (record { answer = done; changes = d; link = next } ≡ openResult limit l packet out .outcome) × (out₁ ≡ openResult limit l packet out .buffer)
+unfolding openResult
+open-finished {code} {h} {count} {d} {next} {cipher} {off} {out₁} limit l packet out e z made eo t er small =
+    let (w, low, high, room, new) = front-passed limit l packet (length out) e z in
+    let (near, is, text) = worked-is limit l packet (length out) e z made in
+    let part : List ℕ = take (length packet - 4) (drop 4 packet) in
+    let long : length part ≡ length packet - 4 = length-take-le (length packet - 4) (drop 4 packet) (omega (arith, length-drop 4 packet)) in
+    let ran : out₁ ≡ written (run cipher part) out = er ∙ run-done cipher part out (omega (arith, long, high, small)) (omega (arith, long, room)) .1 in
+    let off : offProtocol (plainFor l packet) ≡ false = rw (← text) (sym eo ∙ t) in
+    let code : openCode limit l packet (length out) ≡ done = last-row limit l packet (length out) e z ∙ rw off in
+    rw (code, near, is) (refl, ran ∙ ap (λ (plain : List ℕ). written plain out) text)
+
+-- its data begin with two octets
+pub two-more : (packet : List ℕ) → 6 ≤ length packet → 2 ≤ length (take (length packet - 4) (drop 4 packet))
+two-more packet h = omega (arith, length-take-le (length packet - 4) (drop 4 packet) (omega (arith, length-drop 4 packet)))

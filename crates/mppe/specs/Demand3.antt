@@ -41,9 +41,9 @@ pub start-length : (s : Strength) (start : List ℕ) → newLink s start .answer
 unfolding newLink
 start-length s start h = eqb-true (length start) (keyLength s) (taken (eqb (length start) (keyLength s)) h)
   where
-  taken : (t : Bool) → firstOf ((size, not t) ∷ []) ≡ done → t ≡ true
-  taken true h = refl
-  taken false h = absurd (omega arith)
+    taken : (t : Bool) → firstOf ((size, not t) ∷ []) ≡ done → t ≡ true
+    taken true h = refl
+    taken false h = absurd (omega arith)
 
 -- .. and its new link is the record before the first packet
 pub first-is : (s : Strength) (start : List ℕ) → length start ≡ keyLength s → first s start ≡ recordAt s start 0
@@ -190,7 +190,7 @@ unfolding keyFor recordAt
 key-at s start next q packet h e low =
     let all : next + suc (q - next) ≡ suc q = omega arith in
     let add : changes s start (suc (q - next)) (keyAt s start next) ≡ keyAt s start (next + suc (q - next)) =
-        unfold keyAt in changes-add s start next (suc (q - next)) (initialKey s start) in
+    unfold keyAt in changes-add s start next (suc (q - next)) (initialKey s start) in
     rw (e, start-in s start next h, session-in s start next) (add ∙ ap (keyAt s start) all)
 
 plain-at : (s : Strength) (start : List ℕ) (next q : ℕ) (plain : List ℕ) → keyFor (recordAt s start next) (packetAt s start q plain .octets) ≡ keyAt s start (suc q)
@@ -209,7 +209,7 @@ open-code limit s start next q plain lent h can fits e text =
     let long : length packet ≡ 4 + length plain = unfold packetAt in sealed-length (keyAt s start (suc q)) (q % 4096) plain in
     let bounds = within 2 limit (length plain) (can .0) in
     let whole : outside 6 (4 + limit) (length packet) ≡ false =
-        outside-none 6 (4 + limit) (length packet) (omega (arith, long, bounds .0)) (omega (arith, long, bounds .1)) in
+    outside-none 6 (4 + limit) (length packet) (omega (arith, long, bounds .0)) (omega (arith, long, bounds .1)) in
     let pair : eqb (pairAt 0 packet) 0x00FD ≡ true = unfold packetAt sealedPacket in refl in
     let flagA : lacks bitA packet ≡ false = unfold packetAt in sealed-A (keyAt s start (suc q)) (q % 4096) plain (omega arith) in
     let flagD : lacks bitD packet ≡ false = unfold packetAt in sealed-D (keyAt s start (suc q)) (q % 4096) plain (omega arith) in
@@ -238,9 +238,9 @@ pub open-other : (limit : ℕ) (l : Link) (packet lent : List ℕ) → openCode 
 unfolding openResult
 open-other limit l packet lent not0 = refused _ (openCode limit l packet (length lent)) not0
   where
-  refused : (r : Result) (code : ℕ) → code ≢ done → onDone code r (refusal code l lent) ≡ refusal code l lent
-  refused r zero not0 = absurd (not0 refl)
-  refused r (suc n) not0 = refl
+    refused : (r : Result) (code : ℕ) → code ≢ done → onDone code r (refusal code l lent) ≡ refusal code l lent
+    refused r zero not0 = absurd (not0 refl)
+    refused r (suc n) not0 = refl
 
 -- the receiver's results
 opens-all : (limit most : ℕ) (s : Strength) (start : List ℕ) (ps : List Packet) (next : ℕ) (cs : List OpenCall) → length start ≡ keyLength s → most ≤ 4094
@@ -254,7 +254,7 @@ opens-all limit most s start ps next (arrival q octets lent ∷ cs) h bound all 
     let is : numbered s start ps q ≡ packetAt s start q plain = rw (zero-add q) at at in
     let link : numbered s start ps q .link ≡ recordAt s start (suc q) = ap (λ (p : Packet). p .link) is ∙ unfold packetAt in refl in
     let opened : openResult limit (recordAt s start next) octets lent ≡ finished (suc (q - next)) (recordAt s start (suc q)) (written plain lent) =
-        rw (same ∙ ap (λ (p : Packet). p .octets) is) (open-arrival limit s start next q plain lent h can low (omega arith) fits) in
+    rw (same ∙ ap (λ (p : Packet). p .octets) is) (open-arrival limit s start next q plain lent h can low (omega arith) fits) in
     rw (opened, link)
     (ap (λ (rs : List Result). finished (suc (q - next)) (recordAt s start (suc q)) (written plain lent) ∷ rs)
     (opens-all limit most s start ps (suc q) cs h bound all (subst (λ (l : Link). Meets limit s start ps most (suc q) l cs) link rest)))

@@ -43,9 +43,9 @@ rows-stop ((n, false) ∷ rows) rest e = rows-stop rows rest e
 pub within : (low high n : ℕ) → outside low high n ≡ false → (low ≤ n) × (n ≤ high)
 within low high n e = (ltb-false n low (neither (ltb n low) (ltb high n) e .0), ltb-false high n (neither (ltb n low) (ltb high n) e .1))
   where
-  neither : (a b : Bool) → pick a true b ≡ false → (a ≡ false) × (b ≡ false)
-  neither true b e = absurd (true≢false e)
-  neither false b e = (refl, e)
+    neither : (a b : Bool) → pick a true b ≡ false → (a ≡ false) × (b ≡ false)
+    neither true b e = absurd (true≢false e)
+    neither false b e = (refl, e)
 
 pub outside-none : (low high n : ℕ) → low ≤ n → n ≤ high → outside low high n ≡ false
 outside-none low high n l h = rw (le-ltb n low l, le-ltb high n h)

@@ -75,10 +75,11 @@ newLinkCode s start = firstOf ((size, not (eqb (length start) (keyLength s))) �
 -- "A new link has count 4,095 (house), so the first packet carries 0"; "a refused new link has the strength asked for and all else 0"
 unfoldable pub newLink : Strength → List ℕ → NewLink
 newLink s start =
-    record
-    { answer = newLinkCode s start
-    ; link = onDone (newLinkCode s start) (linkOf s start (initialKey s start) 4095)
-    (record { strength = s; start = replicate 16 0; session = replicate 16 0; count = 0 }) }
+    record {
+      answer = newLinkCode s start;
+      link = onDone (newLinkCode s start) (linkOf s start (initialKey s start) 4095)
+          (record { strength = s; start = replicate 16 0; session = replicate 16 0; count = 0 });
+    }
 
 -- the number of two octets from a place on, highest first
 abbrev pub pairAt : ℕ → List ℕ → ℕ

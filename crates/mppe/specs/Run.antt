@@ -38,7 +38,6 @@ pub record History : Type 0 where
 
 -- "Both ends begin with one and the same record, that of a new link"; the sender's history "is fed the strength, the start key .."
 module _ (s : Strength) (start : List ℕ) where
-
   abbrev pub first : Link
   first = newLink s start .link
 
@@ -54,10 +53,11 @@ module _ (s : Strength) (start : List ℕ) where
   -- history's record for it is the new link with that session key and count in place of its own."
   unfoldable pub packetOf : History → List ℕ → Packet
   packetOf h plain =
-      record
-      { plain = plain
-      ; octets = sealedPacket (nextSession h) (h .number % counts) plain
-      ; link = renewed first (nextSession h) (h .number % counts) }
+      record {
+        plain = plain;
+        octets = sealedPacket (nextSession h) (h .number % counts) plain;
+        link = renewed first (nextSession h) (h .number % counts);
+      }
 
   -- the packet of a number: its place in the list of all that are sealed
   unfoldable pub numbered : List Packet → ℕ → Packet
@@ -65,7 +65,6 @@ module _ (s : Strength) (start : List ℕ) where
 
 -- `limit` is the longest plain packet
 module _ (limit : ℕ) where
-
   -- "Each call gets the record that the last call at its end handed back."
   unfoldable pub sealRun : Link → List SealCall → List Result
   sealRun l [] = []
@@ -81,7 +80,6 @@ module _ (limit : ℕ) where
   saidCode c = firstOf (plainRows limit (c .plain) (length (c .room)))
 
   module _ (s : Strength) (start : List ℕ) where
-
     -- "A seal call to which 3, 4 or 2 applies leaves both as they are; it answers the first that applies. Any other answers 0 and
     -- makes one key change .. Then the number goes up by one."
     unfoldable pub onward : History → SealCall → History
@@ -102,7 +100,6 @@ module _ (limit : ℕ) where
         ∷ said (onward h c) (onDone (saidCode c) (p .link) held) cs
 
     module _ (sealed : List Packet) where
-
       -- What is asked of the line. `most` is the largest number of packets lost in a row. `next` is one more than the number of the last
       -- arrival, at first 0, so q - next packets are lost before packet q. `held` is the record of the last arrival, or the new link.
       -- "An arrival is lent that packet's octets and nothing more, and room for its plain packet; the numbers rise from each arrival to

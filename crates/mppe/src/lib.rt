@@ -22,9 +22,11 @@ pub const FRONT: usize = 4;
 const SEALED: u16 = 0x00FD;
 // The lowest and the highest protocol number that is carried.
 const LOWEST_PROTOCOL: u16 = 0x0021;
+
 const HIGHEST_PROTOCOL: u16 = 0x00FA;
 // The header's bits A and D.
 const BIT_A: u16 = 0x8000;
+
 const BIT_D: u16 = 0x1000;
 // How many counts there are.
 const COUNTS: u16 = 4096;
@@ -92,8 +94,9 @@ impl Link {
         if code != answer::DONE {
             return refused(code, self);
         }
-        let next = moved(self, next_count(self.count), 1);
-        put_front(next.count, out);
+        let count = next_count(self.count);
+        let next = moved(self, count, 1);
+        put_front(count, out);
         let strength = next.strength;
         let session = next.session;
         let cipher = cipher_of(strength, session);
@@ -334,5 +337,8 @@ fn put_front(count: u16, out: &mut [u8])
     ensures { λ _. ⌜ now (out .exit) ≡ written (0x00 ∷ 0xFD ∷ header count) (now (out .entry)) ⌝ }
 {
     let header = BIT_A + BIT_D + count;
-    octets::copy(&[0x00, 0xFD, (header / 256) as u8, (header % 256) as u8], out);
+    octets::copy(
+        &[0x00, 0xFD, (header / 256) as u8, (header % 256) as u8],
+        out,
+    );
 }

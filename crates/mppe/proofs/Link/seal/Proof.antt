@@ -1,3 +1,7 @@
+use native.Mathlib.Omega.{arith}
+use Rattle.mppe.specs.Link.{longestPlain}
+use lib.ListN.{length}
+use Rattle.mppe.proofs.Laws.{seal-refused, seal-bounds, front-long, seal-finished}
 use borrow.Author.Needs.{needs}
 use Rattle.mppe.proofs.Link.seal.Statement.{statement}
 use Rattle.mppe.proofs.Link.seal.Tie as tie
@@ -18,7 +22,7 @@ refused-requires : tie.Need-refused-requires
 refused-requires c κs = search needs
 
 returns : tie.Need-returns
-returns c = search needs
+returns c = seal-refused _ (c .before .before .before .before .before .args .self) (c .before .before .before .before .before .args .plain .now) (c .before .before .before .before .before .args .out .now) (c .before .before .seal-code .ensures) (c .before .if1 .taken) (c .refused .ensures)
 
 next-count-requires : tie.Need-next-count-requires
 next-count-requires c κs = search needs
@@ -27,16 +31,16 @@ moved-requires : tie.Need-moved-requires
 moved-requires c κs = search needs
 
 put-front-requires : tie.Need-put-front-requires
-put-front-requires c κs = search needs
+put-front-requires c κs = let e = seal-bounds longestPlain (c .before .before .before .before .before .before .before .args .self) (c .before .before .before .before .before .before .before .args .plain .now) (length (c .before .before .before .before .before .before .before .args .out .now)) (c .before .before .before .before .seal-code .ensures) (c .before .before .before .if1 .left) in (omega (arith, c .before .before .next-count .ensures), omega (arith, e .1))
 
 cipher-of-requires : tie.Need-cipher-of-requires
 cipher-of-requires c κs = search needs
 
 sub-run : tie.Need-sub-run
-sub-run c = search needs
+sub-run c = omega (arith, front-long (c .before .before .before .before .before .before .before .next-count .result) (c .before .before .before .before .before .before .before .before .before .before .before .before .args .out .now) (c .before .before .before .before .put-front .ensures))
 
 part-run-start : tie.Need-part-run-start
-part-run-start c = search needs
+part-run-start c = omega (arith, front-long (c .before .before .before .before .before .before .before .next-count .result) (c .before .before .before .before .before .before .before .before .before .before .before .before .args .out .now) (c .before .before .before .before .put-front .ensures))
 
 part-run-end : tie.Need-part-run-end
 part-run-end c = search needs
@@ -48,7 +52,7 @@ same-length : tie.Need-same-length
 same-length c = search needs
 
 returns-2 : tie.Need-returns-2
-returns-2 c = search needs
+returns-2 c = seal-finished (c .before .before .before .before .before .before .before .before .before .before .before .before .before .before .before .before .args .self) (c .before .before .before .before .before .before .before .before .before .before .before .before .before .before .before .before .args .plain .now) (c .before .before .before .before .before .before .before .before .before .before .before .before .before .before .before .before .args .out .now) (c .before .before .before .before .before .before .before .before .before .before .before .before .before .seal-code .ensures) (c .before .before .before .before .before .before .before .before .before .before .before .before .if1 .left) (c .before .before .before .before .before .before .before .before .before .before .before .next-count .ensures) (c .before .before .before .before .before .before .before .before .before .before .moved .ensures) (c .before .before .before .before .before .before .before .before .put-front .ensures) (c .before .before .before .before .cipher-of .ensures) (c .before .before .run .ensures .1)
 
 pub seal-spec : {M : Type 1} → statement M
 seal-spec =
