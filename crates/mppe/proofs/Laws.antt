@@ -19,14 +19,13 @@ use Rattle.rc4.specs.Answers.{keyedAnswer, runOut}
 use Rattle.rc4.specs.Laws.{keyed-done, run-done}
 use Rattle.mppe_keys.specs.declared.Strength.{Strength}
 use Rattle.mppe_keys.specs.declared.Key.{Key}
-use Rattle.mppe_keys.specs.Keys.{keyLength, headOf, changes, placed, initialKey, rc4}
+use Rattle.mppe_keys.specs.Keys.{keyLength, headOf, changes, initialKey, rc4}
 use Rattle.mppe_keys.specs.Answers.{keyAnswer, oneCode, initialKeyAnswer, placedChanges}
 use Rattle.mppe_keys.specs.Laws.{key-least, key-most, keyChange-length, changes-one}
 use Rattle.mppe_keys.proofs.Laws.{key-placed}
 use Rattle.mppe.specs.declared.Link.{Link}
-use Rattle.mppe.specs.declared.NewLink.{NewLink}
 use Rattle.mppe.specs.declared.Outcome.{Outcome}
-use Rattle.mppe.specs.Link.{longestPlain, zeros, begins, wellFormed, startKeyIn, sessionKeyIn, renewed, linkOf, newLink, newLinkCode, pairAt, offProtocol, bitA, bitD, header, countIn, sealedPacket, distance, refusal, plainRows, nextCount, nextKey, changesFor, sealCode, sealResult, packetRows, packetCode, laterRows, frontRows, frontCode, keyFor, plainFor, openCode, openResult}
+use Rattle.mppe.specs.Link.{longestPlain, zeros, begins, wellFormed, startKeyIn, sessionKeyIn, renewed, newLink, pairAt, offProtocol, bitA, bitD, header, countIn, sealedPacket, distance, refusal, plainRows, nextCount, nextKey, changesFor, sealCode, sealResult, packetRows, packetCode, laterRows, frontRows, frontCode, keyFor, plainFor, openCode, openResult}
 use Rattle.mppe.specs.Laws.{rows-none, rows-pass, rows-stop, within, outside-none, key-back}
 
 -- one place more that is 0, one that is not, and the end of the places

@@ -2,23 +2,23 @@
 use mathlib.Core.Path.{_≡_, refl, ap, subst, subst₂, _∙_}
 use mathlib.Core.Bool.{Bool, true, false, not}
 use mathlib.Core.Logic.{_≢_}
-use mathlib.Core.List.{List, [], _∷_}
+use mathlib.Core.List.{List, [], _∷_, _++_}
 use Prim.Native.Nat.{ℕ, zero, suc, _+_, _-_, _%_, _<_, _≤_}
 use native.Mathlib.Nat.{zero-add, add-zero}
 use native.Mathlib.Omega.{arith}
 use lib.Dec.{eqb, ltb, lit≤}
-use lib.ListN.{length, take, drop, getD}
+use lib.ListN.{length}
 use borrow.Author.Tests.{le-ltb, eq-eqb, ne-eqb, eqb-true}
-use Rattle.answer.specs.Answer.{done, room, size, protocol, outside, firstOf, onDone}
+use Rattle.answer.specs.Answer.{done, room, size, protocol, repeat, outside, firstOf, onDone}
 use Rattle.octets.specs.Octets.{written}
 use Rattle.rc4.specs.Cipher.{keySchedule}
-use Rattle.rc4.specs.Laws.{run-length, run-twice}
+use Rattle.rc4.specs.Laws.{run-twice}
 use Rattle.mppe_keys.specs.declared.Strength.{Strength}
-use Rattle.mppe_keys.specs.Keys.{keyLength, headOf, initialKey, rc4, keyChange, changes, placed}
+use Rattle.mppe_keys.specs.Keys.{keyLength, initialKey, keyChange, changes}
 use Rattle.mppe_keys.specs.Laws.{initialKey-length, initialKey-head, changes-length, changes-head, changes-add}
 use Rattle.mppe.specs.declared.Link.{Link}
-use Rattle.mppe.specs.Link.{longestPlain, wellFormed, startKeyIn, sessionKeyIn, renewed, nextKey, nextCount, linkOf, newLink, newLinkCode, pairAt, offProtocol, bitA, bitD, lacks, sealedPacket, countIn, distance, Result, finished, refusal, plainRows, sealCode, sealResult, changesFor, keyFor, plainFor, openCode, openResult}
-use Rattle.mppe.specs.Laws.{rows-none, within, outside-none, key-back, well, sealed-length, sealed-count, sealed-A, sealed-D, distance-is}
+use Rattle.mppe.specs.Link.{longestPlain, wellFormed, startKeyIn, sessionKeyIn, renewed, nextKey, nextCount, linkOf, newLink, newLinkCode, pairAt, offProtocol, bitA, bitD, lacks, sealedPacket, countIn, Result, finished, refusal, plainRows, sealCode, sealResult, changesFor, packetRows, laterRows, keyFor, plainFor, openCode, openResult}
+use Rattle.mppe.specs.Laws.{rows-none, rows-pass, within, outside-none, key-back, well, sealed-length, sealed-count, sealed-A, sealed-D, distance-is}
 use Rattle.mppe.specs.Run.{mostLost, SealCall, OpenCall, arrival, other, Packet, History, sealRun, openRun, saidCode, first, beginning, packetOf, onward, packets, said, numbered, Meets, due, Demand3}
 
 -- both ends as they are when m packets are sealed: the session key, the record, the history
@@ -198,25 +198,55 @@ plain-at : (s : Strength) (start : List ℕ) (next q : ℕ) (plain : List ℕ) �
 unfolding plainFor packetAt sealedPacket
 plain-at s start next q plain e = rw e (run-twice (keySchedule (keyAt s start (suc q))) plain)
 
+-- a packet on the line passes the rows that it alone decides, so those that the record decides with it answer
+line-rows : (limit : ℕ) (s : Strength) (start : List ℕ) (q : ℕ) (plain : List ℕ) → Sealable limit plain
+    → firstOf (packetRows limit (packetAt s start q plain .octets)) ≡ done
+line-rows limit s start q plain can =
+    let packet : List ℕ = packetAt s start q plain .octets in
+    let long : length packet ≡ 4 + length plain = unfold packetAt in sealed-length (keyAt s start (suc q)) (q % 4096) plain in
+    let bounds = within 2 limit (length plain) (can .0) in
+    let whole : outside 6 (4 + limit) (length packet) ≡ false =
+        outside-none 6 (4 + limit) (length packet) (omega (arith, long, bounds .0)) (omega (arith, long, bounds .1)) in
+    let pair : eqb (pairAt 0 packet) 0x00FD ≡ true = unfold packetAt sealedPacket in refl in
+    let flagA : lacks bitA packet ≡ false = unfold packetAt in sealed-A (keyAt s start (suc q)) (q % 4096) plain (omega arith) in
+    let flagD : lacks bitD packet ≡ false = unfold packetAt in sealed-D (keyAt s start (suc q)) (q % 4096) plain (omega arith) in
+    rw (whole, pair, flagA, flagD)
+
+line-code : (limit : ℕ) (s : Strength) (start : List ℕ) (m q : ℕ) (plain : List ℕ) (lent : ℕ) → length start ≡ keyLength s → Sealable limit plain
+    → let packet = packetAt s start q plain .octets in
+    openCode limit (recordAt s start m) packet lent
+    ≡ firstOf (laterRows (recordAt s start m) packet lent ++ ((protocol, offProtocol (plainFor (recordAt s start m) packet)) ∷ []))
+unfolding openCode
+line-code limit s start m q plain lent h can =
+    let packet : List ℕ = packetAt s start q plain .octets in
+    rw (well-at s start m h)
+    (rows-pass (packetRows limit packet) (laterRows (recordAt s start m) packet lent ++ ((protocol, offProtocol (plainFor (recordAt s start m) packet)) ∷ []))
+    (lit≤ tt, (lit≤ tt, (lit≤ tt, (lit≤ tt, tt)))) (line-rows limit s start q plain can))
+
 open-code : (limit : ℕ) (s : Strength) (start : List ℕ) (next q : ℕ) (plain : List ℕ) (lent : ℕ) → length start ≡ keyLength s → Sealable limit plain
     → length plain ≤ lent
     → changesFor (recordAt s start next) (packetAt s start q plain .octets) ≡ suc (q - next)
     → plainFor (recordAt s start next) (packetAt s start q plain .octets) ≡ plain
     → openCode limit (recordAt s start next) (packetAt s start q plain .octets) lent ≡ done
-unfolding openCode
 open-code limit s start next q plain lent h can fits e text =
     let packet : List ℕ = packetAt s start q plain .octets in
     let long : length packet ≡ 4 + length plain = unfold packetAt in sealed-length (keyAt s start (suc q)) (q % 4096) plain in
-    let bounds = within 2 limit (length plain) (can .0) in
-    let whole : outside 6 (4 + limit) (length packet) ≡ false =
-    outside-none 6 (4 + limit) (length packet) (omega (arith, long, bounds .0)) (omega (arith, long, bounds .1)) in
-    let pair : eqb (pairAt 0 packet) 0x00FD ≡ true = unfold packetAt sealedPacket in refl in
-    let flagA : lacks bitA packet ≡ false = unfold packetAt in sealed-A (keyAt s start (suc q)) (q % 4096) plain (omega arith) in
-    let flagD : lacks bitD packet ≡ false = unfold packetAt in sealed-D (keyAt s start (suc q)) (q % 4096) plain (omega arith) in
     let new : eqb (changesFor (recordAt s start next) packet) 0 ≡ false = ne-eqb (changesFor (recordAt s start next) packet) 0 (λ z. omega (arith, e, z)) in
     let roomy : ltb lent (length packet - 4) ≡ false = le-ltb lent (length packet - 4) (omega (arith, long)) in
     let carried : offProtocol (plainFor (recordAt s start next) packet) ≡ false = rw text (can .1) in
-    rw (well-at s start next h, whole, pair, flagA, flagD, new, roomy, carried)
+    line-code limit s start next q plain lent h can ∙ rw (new, roomy, carried)
+
+-- the packet that was opened last is a repeat
+none-at : (s : Strength) (start : List ℕ) (q : ℕ) (packet : List ℕ) → countIn packet ≡ q % 4096 → changesFor (recordAt s start (suc q)) packet ≡ 0
+unfolding recordAt
+none-at s start q packet count = rw count (omega arith)
+
+pub repeat-code : (limit : ℕ) (s : Strength) (start : List ℕ) (q : ℕ) (plain : List ℕ) (lent : ℕ) → length start ≡ keyLength s → Sealable limit plain
+    → openCode limit (recordAt s start (suc q)) (packetAt s start q plain .octets) lent ≡ repeat
+repeat-code limit s start q plain lent h can =
+    let packet : List ℕ = packetAt s start q plain .octets in
+    let count : countIn packet ≡ q % 4096 = unfold packetAt in sealed-count (keyAt s start (suc q)) (q % 4096) plain (omega arith) in
+    line-code limit s start (suc q) q plain lent h can ∙ rw (eq-eqb (changesFor (recordAt s start (suc q)) packet) 0 (none-at s start q packet count))
 
 -- an arrival opens as is due
 pub open-arrival : (limit : ℕ) (s : Strength) (start : List ℕ) (next q : ℕ) (plain lent : List ℕ) → length start ≡ keyLength s → Sealable limit plain

@@ -1,10 +1,10 @@
 // MPPE's link in stateless mode: the record, sealing and opening (01, "Keys" and "Packets and counts"; RFC 3078, sections 3 and 7).
 ghost use mathlib.Core.Path.{_≡_};
-ghost use mathlib.Core.List.{[], _∷_, _++_};
+ghost use mathlib.Core.List.{[], _∷_};
 ghost use Prim.Native.Nat.{_+_, _*_, _%_, _≤_, _<_};
 ghost use lib.ListN.{length, take, drop};
-ghost use Rattle.answer.specs.Answer.{outside, firstOf};
-ghost use Rattle.octets.specs.Octets.{written, longestText};
+ghost use Rattle.answer.specs.Answer.{outside};
+ghost use Rattle.octets.specs.Octets.{written};
 ghost use Rattle.rc4.specs.Cipher.{keySchedule, run};
 ghost use Rattle.mppe_keys.specs.Keys.{keyLength, headOf, changes as changesOf};
 ghost use Rattle.mppe.specs.Link.{longestPlain, zeros, begins, wellFormed, newLink, startKeyIn, sessionKeyIn, renewed, offProtocol, header, distance as distanceOf, refusal, sealCode, sealResult, packetCode, frontCode, openResult};

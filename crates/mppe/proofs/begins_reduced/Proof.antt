@@ -2,12 +2,10 @@ use lib.ListN.{length}
 use Rattle.mppe.proofs.Laws.{first-other, second-other, three-begin, one-begins, none-begins}
 use Rattle.mppe_keys.specs.Keys.{headOf}
 use native.Mathlib.Omega.{arith}
-use mathlib.Core.Path.{_≡_, refl, sym, ap, _∙_}
+use mathlib.Core.Path.{_≡_, ap}
 use borrow.Author.Needs.{needs}
 use Rattle.mppe.proofs.begins_reduced.Statement.{statement}
 use Rattle.mppe.proofs.begins_reduced.Tie as tie
-use Rattle.mppe.proofs.begins_reduced.Reads as reads
-use Rattle.mppe.proofs.begins_reduced.Lts as lts
 
 enum-told : tie.Need-enum-told
 enum-told c = search needs

@@ -3,14 +3,10 @@ use Rattle.mppe_keys.specs.Laws.{key-most}
 use Rattle.mppe.proofs.Laws.{cipher-is}
 use lib.ListN.{length}
 use native.Mathlib.Omega.{arith}
-use mathlib.Core.Path.{_≡_, refl, sym, ap, _∙_}
+use mathlib.Core.Path.{_≡_}
 use borrow.Author.Needs.{needs}
 use Rattle.mppe.proofs.cipher_of.Statement.{statement}
 use Rattle.mppe.proofs.cipher_of.Tie as tie
-use Rattle.mppe.proofs.cipher_of.Reads as reads
-use Rattle.mppe.proofs.cipher_of.Lts as lts
-use Rattle.mppe_keys.proofs.key_length.Reads as key-length-reads
-use Rattle.rc4.proofs.Rc4.keyed.Reads as keyed-reads
 
 key-length-requires : tie.Need-key-length-requires
 key-length-requires c κs = search needs

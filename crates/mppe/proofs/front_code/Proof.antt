@@ -3,12 +3,6 @@ use Rattle.mppe.proofs.Laws.{fails, holds, near-is, packet-bounds, fron
 use borrow.Author.Needs.{needs}
 use Rattle.mppe.proofs.front_code.Statement.{statement}
 use Rattle.mppe.proofs.front_code.Tie as tie
-use Rattle.mppe.proofs.front_code.Reads as reads
-use Rattle.mppe.proofs.front_code.Lts as lts
-use Rattle.mppe.proofs.distance.Reads as distance-reads
-use Rattle.mppe.proofs.packet_code.Reads as packet-code-reads
-use Rattle.mppe.proofs.pair.Reads as pair-reads
-use Rattle.mppe.proofs.well_formed.Reads as well-formed-reads
 
 well-formed-requires : tie.Need-well-formed-requires
 well-formed-requires c κs = search needs

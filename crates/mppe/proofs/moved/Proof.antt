@@ -2,9 +2,6 @@ use Rattle.mppe.proofs.Laws.{moved-is}
 use borrow.Author.Needs.{needs}
 use Rattle.mppe.proofs.moved.Statement.{statement}
 use Rattle.mppe.proofs.moved.Tie as tie
-use Rattle.mppe.proofs.moved.Reads as reads
-use Rattle.mppe.proofs.moved.Lts as lts
-use Rattle.mppe_keys.proofs.placed_key_changes.Reads as placed-key-changes-reads
 
 placed-key-changes-requires : tie.Need-placed-key-changes-requires
 placed-key-changes-requires c κs = search needs

@@ -2,9 +2,6 @@ use Rattle.mppe.proofs.Laws.{outside-low, outside-high}
 use borrow.Author.Needs.{needs}
 use Rattle.mppe.proofs.off_protocol.Statement.{statement}
 use Rattle.mppe.proofs.off_protocol.Tie as tie
-use Rattle.mppe.proofs.off_protocol.Reads as reads
-use Rattle.mppe.proofs.off_protocol.Lts as lts
-use Rattle.mppe.proofs.pair.Reads as pair-reads
 
 pair-requires : tie.Need-pair-requires
 pair-requires c κs = search needs

@@ -2,9 +2,6 @@ use Rattle.mppe.proofs.Laws.{packet-short, packet-long, packet-other, p
 use borrow.Author.Needs.{needs}
 use Rattle.mppe.proofs.packet_code.Statement.{statement}
 use Rattle.mppe.proofs.packet_code.Tie as tie
-use Rattle.mppe.proofs.packet_code.Reads as reads
-use Rattle.mppe.proofs.packet_code.Lts as lts
-use Rattle.mppe.proofs.pair.Reads as pair-reads
 
 add-if1 : tie.Need-add-if1
 add-if1 c = search needs

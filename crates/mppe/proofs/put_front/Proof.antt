@@ -1,11 +1,8 @@
 use Rattle.mppe.proofs.Laws.{front-put}
-use mathlib.Core.Path.{_≡_, refl, sym, ap, _∙_}
+use mathlib.Core.Path.{refl}
 use borrow.Author.Needs.{needs}
 use Rattle.mppe.proofs.put_front.Statement.{statement}
 use Rattle.mppe.proofs.put_front.Tie as tie
-use Rattle.mppe.proofs.put_front.Reads as reads
-use Rattle.mppe.proofs.put_front.Lts as lts
-use Rattle.octets.proofs.copy.Reads as copy-reads
 
 add-header : tie.Need-add-header
 add-header c = search needs

@@ -3,10 +3,6 @@ use Rattle.mppe.proofs.Laws.{pair-runs}
 use borrow.Author.Needs.{needs}
 use Rattle.mppe.proofs.runs_off_protocol.Statement.{statement}
 use Rattle.mppe.proofs.runs_off_protocol.Tie as tie
-use Rattle.mppe.proofs.runs_off_protocol.Reads as reads
-use Rattle.mppe.proofs.runs_off_protocol.Lts as lts
-use Rattle.mppe.proofs.off_protocol.Reads as off-protocol-reads
-use Rattle.rc4.proofs.Rc4.run.Reads as run-reads
 
 slice-aggregate-run : tie.Need-slice-aggregate-run
 slice-aggregate-run c = count 2 (c .before .before .args .text .now) (c .before .before .pre)

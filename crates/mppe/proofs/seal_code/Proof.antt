@@ -2,10 +2,6 @@ use Rattle.mppe.proofs.Laws.{fails, holds, seal-record, seal-short, sea
 use borrow.Author.Needs.{needs}
 use Rattle.mppe.proofs.seal_code.Statement.{statement}
 use Rattle.mppe.proofs.seal_code.Tie as tie
-use Rattle.mppe.proofs.seal_code.Reads as reads
-use Rattle.mppe.proofs.seal_code.Lts as lts
-use Rattle.mppe.proofs.off_protocol.Reads as off-protocol-reads
-use Rattle.mppe.proofs.well_formed.Reads as well-formed-reads
 
 well-formed-requires : tie.Need-well-formed-requires
 well-formed-requires c κs = search needs

@@ -2,11 +2,6 @@ use Rattle.mppe.proofs.Laws.{fails, holds, well-count, well-start, well
 use borrow.Author.Needs.{needs}
 use Rattle.mppe.proofs.well_formed.Statement.{statement}
 use Rattle.mppe.proofs.well_formed.Tie as tie
-use Rattle.mppe.proofs.well_formed.Reads as reads
-use Rattle.mppe.proofs.well_formed.Lts as lts
-use Rattle.mppe.proofs.begins_reduced.Reads as begins-reduced-reads
-use Rattle.mppe.proofs.zeros_from.Reads as zeros-from-reads
-use Rattle.mppe_keys.proofs.key_length.Reads as key-length-reads
 
 returns : tie.Need-returns
 returns c = well-count (c .before .before .args .link) (c .if1 .taken)

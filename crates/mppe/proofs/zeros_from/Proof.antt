@@ -7,8 +7,6 @@ use mathlib.Core.Path.{_≡_, refl}
 use borrow.Author.Needs.{needs}
 use Rattle.mppe.proofs.zeros_from.Statement.{statement}
 use Rattle.mppe.proofs.zeros_from.Tie as tie
-use Rattle.mppe.proofs.zeros_from.Reads as reads
-use Rattle.mppe.proofs.zeros_from.Lts as lts
 
 abbrev Inv-loop : tie.InvT-loop
 Inv-loop from places i₀ i = (length places ≡ 16) × (zeros (drop from places) ≡ zeros (drop i places))

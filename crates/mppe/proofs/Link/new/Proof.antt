@@ -2,10 +2,6 @@ use Rattle.mppe.proofs.Laws.{new-refused, new-done}
 use borrow.Author.Needs.{needs}
 use Rattle.mppe.proofs.Link.new.Statement.{statement}
 use Rattle.mppe.proofs.Link.new.Tie as tie
-use Rattle.mppe.proofs.Link.new.Reads as reads
-use Rattle.mppe.proofs.Link.new.Lts as lts
-use Rattle.mppe_keys.proofs.initial_session_key.Reads as initial-session-key-reads
-use Rattle.octets.proofs.copy.Reads as copy-reads
 
 initial-session-key-requires : tie.Need-initial-session-key-requires
 initial-session-key-requires c κs = search needs

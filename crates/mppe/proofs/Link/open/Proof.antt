@@ -7,16 +7,6 @@ use Rattle.mppe.proofs.Laws.{open-refused, front-passed, two-more, open
 use borrow.Author.Needs.{needs}
 use Rattle.mppe.proofs.Link.open.Statement.{statement}
 use Rattle.mppe.proofs.Link.open.Tie as tie
-use Rattle.mppe.proofs.Link.open.Reads as reads
-use Rattle.mppe.proofs.Link.open.Lts as lts
-use Rattle.mppe.proofs.cipher_of.Reads as cipher-of-reads
-use Rattle.mppe.proofs.distance.Reads as distance-reads
-use Rattle.mppe.proofs.front_code.Reads as front-code-reads
-use Rattle.mppe.proofs.moved.Reads as moved-reads
-use Rattle.mppe.proofs.pair.Reads as pair-reads
-use Rattle.mppe.proofs.refused.Reads as refused-reads
-use Rattle.mppe.proofs.runs_off_protocol.Reads as runs-off-protocol-reads
-use Rattle.rc4.proofs.Rc4.run.Reads as run-reads
 
 front-code-requires : tie.Need-front-code-requires
 front-code-requires c κs = search needs
@@ -25,13 +15,19 @@ refused-requires : tie.Need-refused-requires
 refused-requires c κs = search needs
 
 returns : tie.Need-returns
-returns c = open-refused _ (c .before .before .before .before .before .args .self) (c .before .before .before .before .before .args .packet .now) (c .before .before .before .before .before .args .out .now) (c .before .before .front-code .ensures) (c .before .if1 .taken) (c .refused .ensures)
+returns c = let a = c .before .before .before .before .before .args in
+    open-refused _ (a .self) (a .packet .now) (a .out .now) (c .before .before .front-code .ensures)
+    (c .before .if1 .taken) (c .refused .ensures)
 
 shared-slice-read-pair : tie.Need-shared-slice-read-pair
-shared-slice-read-pair c = let e = front-passed longestPlain (c .before .before .before .before .before .args .self) (c .before .before .before .before .before .args .packet .now) (length (c .before .before .before .before .before .args .out .now)) (c .before .before .front-code .ensures) (c .before .if1 .left) in omega (arith, e .1)
+shared-slice-read-pair c = let a = c .before .before .before .before .before .args in
+    let e = front-passed longestPlain (a .self) (a .packet .now) (length (a .out .now)) (c .before .before .front-code .ensures) (c .before .if1 .left) in
+    omega (arith, e .1)
 
 shared-slice-read-pair-2 : tie.Need-shared-slice-read-pair-2
-shared-slice-read-pair-2 c = let e = front-passed longestPlain (c .before .before .before .before .before .before .args .self) (c .before .before .before .before .before .before .args .packet .now) (length (c .before .before .before .before .before .before .args .out .now)) (c .before .before .before .front-code .ensures) (c .before .before .if1 .left) in omega (arith, e .1)
+shared-slice-read-pair-2 c = let a = c .before .before .before .before .before .before .args in
+    let e = front-passed longestPlain (a .self) (a .packet .now) (length (a .out .now)) (c .before .before .before .front-code .ensures) (c .before .before .if1 .left) in
+    omega (arith, e .1)
 
 pair-requires : tie.Need-pair-requires
 pair-requires c κs = search needs
@@ -46,28 +42,41 @@ cipher-of-requires : tie.Need-cipher-of-requires
 cipher-of-requires c κs = search needs
 
 sub-runs-off-protocol : tie.Need-sub-runs-off-protocol
-sub-runs-off-protocol c = let e = front-passed longestPlain (c .before .before .before .before .before .before .before .before .before .before .before .args .self) (c .before .before .before .before .before .before .before .before .before .before .before .args .packet .now) (length (c .before .before .before .before .before .before .before .before .before .before .before .args .out .now)) (c .before .before .before .before .before .before .before .before .front-code .ensures) (c .before .before .before .before .before .before .before .if1 .left) in omega (arith, e .1)
+sub-runs-off-protocol c = let a = c .before .before .before .before .before .before .before .before .before .before .before .args in
+    let e = front-passed longestPlain (a .self) (a .packet .now) (length (a .out .now)) (c .before .before .before .before .before .before .before .before .front-code .ensures) (c .before .before .before .before .before .before .before .if1 .left) in
+    omega (arith, e .1)
 
 part-runs-off-protocol-start : tie.Need-part-runs-off-protocol-start
-part-runs-off-protocol-start c = let e = front-passed longestPlain (c .before .before .before .before .before .before .before .before .before .before .before .args .self) (c .before .before .before .before .before .before .before .before .before .before .before .args .packet .now) (length (c .before .before .before .before .before .before .before .before .before .before .before .args .out .now)) (c .before .before .before .before .before .before .before .before .front-code .ensures) (c .before .before .before .before .before .before .before .if1 .left) in omega (arith, e .1)
+part-runs-off-protocol-start c = let a = c .before .before .before .before .before .before .before .before .before .before .before .args in
+    let e = front-passed longestPlain (a .self) (a .packet .now) (length (a .out .now)) (c .before .before .before .before .before .before .before .before .front-code .ensures) (c .before .before .before .before .before .before .before .if1 .left) in
+    omega (arith, e .1)
 
 part-runs-off-protocol-end : tie.Need-part-runs-off-protocol-end
 part-runs-off-protocol-end c = search needs
 
 runs-off-protocol-requires : tie.Need-runs-off-protocol-requires
-runs-off-protocol-requires c κs = let e = front-passed longestPlain (c .before .before .before .before .before .before .before .before .before .before .before .before .args .self) (c .before .before .before .before .before .before .before .before .before .before .before .before .args .packet .now) (length (c .before .before .before .before .before .before .before .before .before .before .before .before .args .out .now)) (c .before .before .before .before .before .before .before .before .before .front-code .ensures) (c .before .before .before .before .before .before .before .before .if1 .left) in two-more (c .before .before .before .before .before .before .before .before .before .before .before .before .args .packet .now) (e .1)
+runs-off-protocol-requires c κs = let a = c .before .before .before .before .before .before .before .before .before .before .before .before .args in
+    let e = front-passed longestPlain (a .self) (a .packet .now) (length (a .out .now)) (c .before .before .before .before .before .before .before .before .before .front-code .ensures) (c .before .before .before .before .before .before .before .before .if1 .left) in
+    two-more (a .packet .now) (e .1)
 
 refused-requires-2 : tie.Need-refused-requires-2
 refused-requires-2 c κs = search needs
 
 returns-2 : tie.Need-returns-2
-returns-2 c = open-off _ (c .before .before .before .before .before .before .before .before .before .before .before .before .before .before .before .args .self) (c .before .before .before .before .before .before .before .before .before .before .before .before .before .before .before .args .packet .now) (c .before .before .before .before .before .before .before .before .before .before .before .before .before .before .before .args .out .now) (c .before .before .before .before .before .before .before .before .before .before .before .before .front-code .ensures) (c .before .before .before .before .before .before .before .before .before .before .before .if1 .left) (c .before .before .before .before .before .before .before .before .pair .ensures, refl, c .before .before .before .before .before .before .before .distance .ensures, c .before .before .before .before .before .before .moved .ensures, c .before .before .before .before .cipher-of .ensures) (c .before .before .runs-off-protocol .ensures) (c .before .if2 .taken) (c .refused2 .ensures)
+returns-2 c = let a = c .before .before .before .before .before .before .before .before .before .before .before .before .before .before .before .args in
+    open-off _ (a .self) (a .packet .now) (a .out .now) (c .before .before .before .before .before .before .before .before .before .before .before .before .front-code .ensures)
+    (c .before .before .before .before .before .before .before .before .before .before .before .if1 .left) (c .before .before .before .before .before .before .before .before .pair .ensures, refl, c .before .before .before .before .before .before .before .distance .ensures, c .before .before .before .before .before .before .moved .ensures, c .before .before .before .before .cipher-of .ensures)
+    (c .before .before .runs-off-protocol .ensures) (c .before .if2 .taken) (c .refused2 .ensures)
 
 sub-run : tie.Need-sub-run
-sub-run c = let e = front-passed longestPlain (c .before .before .before .before .before .before .before .before .before .before .before .before .before .before .args .self) (c .before .before .before .before .before .before .before .before .before .before .before .before .before .before .args .packet .now) (length (c .before .before .before .before .before .before .before .before .before .before .before .before .before .before .args .out .now)) (c .before .before .before .before .before .before .before .before .before .before .before .front-code .ensures) (c .before .before .before .before .before .before .before .before .before .before .if1 .left) in omega (arith, e .1)
+sub-run c = let a = c .before .before .before .before .before .before .before .before .before .before .before .before .before .before .args in
+    let e = front-passed longestPlain (a .self) (a .packet .now) (length (a .out .now)) (c .before .before .before .before .before .before .before .before .before .before .before .front-code .ensures) (c .before .before .before .before .before .before .before .before .before .before .if1 .left) in
+    omega (arith, e .1)
 
 part-run-start : tie.Need-part-run-start
-part-run-start c = let e = front-passed longestPlain (c .before .before .before .before .before .before .before .before .before .before .before .before .before .before .args .self) (c .before .before .before .before .before .before .before .before .before .before .before .before .before .before .args .packet .now) (length (c .before .before .before .before .before .before .before .before .before .before .before .before .before .before .args .out .now)) (c .before .before .before .before .before .before .before .before .before .before .before .front-code .ensures) (c .before .before .before .before .before .before .before .before .before .before .if1 .left) in omega (arith, e .1)
+part-run-start c = let a = c .before .before .before .before .before .before .before .before .before .before .before .before .before .before .args in
+    let e = front-passed longestPlain (a .self) (a .packet .now) (length (a .out .now)) (c .before .before .before .before .before .before .before .before .before .before .before .front-code .ensures) (c .before .before .before .before .before .before .before .before .before .before .if1 .left) in
+    omega (arith, e .1)
 
 part-run-end : tie.Need-part-run-end
 part-run-end c = search needs
@@ -79,7 +88,10 @@ same-length : tie.Need-same-length
 same-length c = search needs
 
 returns-3 : tie.Need-returns-3
-returns-3 c = open-finished _ (c .before .before .before .before .before .before .before .before .before .before .before .before .before .before .before .before .before .before .before .args .self) (c .before .before .before .before .before .before .before .before .before .before .before .before .before .before .before .before .before .before .before .args .packet .now) (c .before .before .before .before .before .before .before .before .before .before .before .before .before .before .before .before .before .before .before .args .out .now) (c .before .before .before .before .before .before .before .before .before .before .before .before .before .before .before .before .front-code .ensures) (c .before .before .before .before .before .before .before .before .before .before .before .before .before .before .before .if1 .left) (c .before .before .before .before .before .before .before .before .before .before .before .before .pair .ensures, refl, c .before .before .before .before .before .before .before .before .before .before .before .distance .ensures, c .before .before .before .before .before .before .before .before .before .before .moved .ensures, c .before .before .before .before .before .before .before .before .cipher-of .ensures) (c .before .before .before .before .before .before .runs-off-protocol .ensures) (c .before .before .before .before .before .if2 .left) (c .before .before .run .ensures .1) (lit≤ tt)
+returns-3 c = let a = c .before .before .before .before .before .before .before .before .before .before .before .before .before .before .before .before .before .before .before .args in
+    open-finished _ (a .self) (a .packet .now) (a .out .now) (c .before .before .before .before .before .before .before .before .before .before .before .before .before .before .before .before .front-code .ensures)
+    (c .before .before .before .before .before .before .before .before .before .before .before .before .before .before .before .if1 .left) (c .before .before .before .before .before .before .before .before .before .before .before .before .pair .ensures, refl, c .before .before .before .before .before .before .before .before .before .before .before .distance .ensures, c .before .before .before .before .before .before .before .before .before .before .moved .ensures, c .before .before .before .before .before .before .before .before .cipher-of .ensures)
+    (c .before .before .before .before .before .before .runs-off-protocol .ensures) (c .before .before .before .before .before .if2 .left) (c .before .before .run .ensures .1) (lit≤ tt)
 
 pub open-spec : {M : Type 1} → statement M
 open-spec =

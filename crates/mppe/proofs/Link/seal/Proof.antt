@@ -5,15 +5,6 @@ use Rattle.mppe.proofs.Laws.{seal-refused, seal-bounds, front-long, sea
 use borrow.Author.Needs.{needs}
 use Rattle.mppe.proofs.Link.seal.Statement.{statement}
 use Rattle.mppe.proofs.Link.seal.Tie as tie
-use Rattle.mppe.proofs.Link.seal.Reads as reads
-use Rattle.mppe.proofs.Link.seal.Lts as lts
-use Rattle.mppe.proofs.cipher_of.Reads as cipher-of-reads
-use Rattle.mppe.proofs.moved.Reads as moved-reads
-use Rattle.mppe.proofs.next_count.Reads as next-count-reads
-use Rattle.mppe.proofs.put_front.Reads as put-front-reads
-use Rattle.mppe.proofs.refused.Reads as refused-reads
-use Rattle.mppe.proofs.seal_code.Reads as seal-code-reads
-use Rattle.rc4.proofs.Rc4.run.Reads as run-reads
 
 seal-code-requires : tie.Need-seal-code-requires
 seal-code-requires c κs = search needs
@@ -22,7 +13,8 @@ refused-requires : tie.Need-refused-requires
 refused-requires c κs = search needs
 
 returns : tie.Need-returns
-returns c = seal-refused _ (c .before .before .before .before .before .args .self) (c .before .before .before .before .before .args .plain .now) (c .before .before .before .before .before .args .out .now) (c .before .before .seal-code .ensures) (c .before .if1 .taken) (c .refused .ensures)
+returns c = let a = c .before .before .before .before .before .args in
+    seal-refused _ (a .self) (a .plain .now) (a .out .now) (c .before .before .seal-code .ensures) (c .before .if1 .taken) (c .refused .ensures)
 
 next-count-requires : tie.Need-next-count-requires
 next-count-requires c κs = search needs
@@ -31,7 +23,9 @@ moved-requires : tie.Need-moved-requires
 moved-requires c κs = search needs
 
 put-front-requires : tie.Need-put-front-requires
-put-front-requires c κs = let e = seal-bounds longestPlain (c .before .before .before .before .before .before .before .args .self) (c .before .before .before .before .before .before .before .args .plain .now) (length (c .before .before .before .before .before .before .before .args .out .now)) (c .before .before .before .before .seal-code .ensures) (c .before .before .before .if1 .left) in (omega (arith, c .before .before .next-count .ensures), omega (arith, e .1))
+put-front-requires c κs = let a = c .before .before .before .before .before .before .before .args in
+    let e = seal-bounds longestPlain (a .self) (a .plain .now) (length (a .out .now)) (c .before .before .before .before .seal-code .ensures) (c .before .before .before .if1 .left) in
+    (omega (arith, c .before .before .next-count .ensures), omega (arith, e .1))
 
 cipher-of-requires : tie.Need-cipher-of-requires
 cipher-of-requires c κs = search needs
@@ -52,7 +46,10 @@ same-length : tie.Need-same-length
 same-length c = search needs
 
 returns-2 : tie.Need-returns-2
-returns-2 c = seal-finished (c .before .before .before .before .before .before .before .before .before .before .before .before .before .before .before .before .args .self) (c .before .before .before .before .before .before .before .before .before .before .before .before .before .before .before .before .args .plain .now) (c .before .before .before .before .before .before .before .before .before .before .before .before .before .before .before .before .args .out .now) (c .before .before .before .before .before .before .before .before .before .before .before .before .before .seal-code .ensures) (c .before .before .before .before .before .before .before .before .before .before .before .before .if1 .left) (c .before .before .before .before .before .before .before .before .before .before .before .next-count .ensures) (c .before .before .before .before .before .before .before .before .before .before .moved .ensures) (c .before .before .before .before .before .before .before .before .put-front .ensures) (c .before .before .before .before .cipher-of .ensures) (c .before .before .run .ensures .1)
+returns-2 c = let a = c .before .before .before .before .before .before .before .before .before .before .before .before .before .before .before .before .args in
+    seal-finished (a .self) (a .plain .now) (a .out .now) (c .before .before .before .before .before .before .before .before .before .before .before .before .before .seal-code .ensures) (c .before .before .before .before .before .before .before .before .before .before .before .before .if1 .left)
+    (c .before .before .before .before .before .before .before .before .before .before .before .next-count .ensures) (c .before .before .before .before .before .before .before .before .before .before .moved .ensures)
+    (c .before .before .before .before .before .before .before .before .put-front .ensures) (c .before .before .before .before .cipher-of .ensures) (c .before .before .run .ensures .1)
 
 pub seal-spec : {M : Type 1} → statement M
 seal-spec =

@@ -1,0 +1,100 @@
+-- A run that meets demand 3's schedule, for every strength and start key: of three packets the line loses the first, the second is
+-- handed to open twice, and noise comes before the third. So the claim is not empty; and what it says of this run.
+use mathlib.Core.Path.{_≡_, refl, ap, subst⁻¹, _∙_}
+use mathlib.Core.List.{List, [], _∷_, _++_, map}
+use Prim.Native.Nat.{ℕ, _≤_}
+use native.Mathlib.Omega.{arith}
+use lib.Dec.{lit≤, lit<}
+use lib.ListN.{length, replicate}
+use Rattle.answer.specs.Answer.{done, shape, size, repeat}
+use Rattle.mppe_keys.specs.declared.Strength.{Strength}
+use Rattle.mppe_keys.specs.Keys.{keyLength, changes}
+use Rattle.mppe.specs.Link.{longestPlain, newLink, Result, finished, refusal, openCode}
+use Rattle.mppe.specs.Run.{mostLost, SealCall, OpenCall, arrival, other, Packet, sealRun, openRun, first, beginning, saidCode, packetOf, onward, packets, said, numbered, Meets, due, Demand3}
+use Rattle.mppe.specs.Demand3.{keyAt, historyAt, packetAt, start-length, well-at, packet-is, repeat-code, demand-3-base}
+
+abbrev plain₀ : List ℕ
+plain₀ = 0x00 ∷ 0x21 ∷ 0x45 ∷ []
+
+abbrev plain₁ : List ℕ
+plain₁ = 0x00 ∷ 0x21 ∷ 0x46 ∷ 0x47 ∷ []
+
+abbrev plain₂ : List ℕ
+plain₂ = 0x00 ∷ 0x57 ∷ []
+
+-- the number that a call answers
+abbrev answered : Result → ℕ
+answered r = r .outcome .answer
+
+-- the second call is refused: its packet is too short
+abbrev pub seals : List SealCall
+seals =
+    record { plain = plain₀; room = replicate 7 0 }
+    ∷ record { plain = 0x00 ∷ []; room = replicate 7 0 }
+    ∷ record { plain = plain₁; room = replicate 9 0 }
+    ∷ record { plain = plain₂; room = replicate 6 0 }
+    ∷ []
+
+module _ (s : Strength) (start : List ℕ) where
+
+  abbrev pub sealed : List Packet
+  sealed = packets longestPlain s start (beginning s start) seals
+
+  abbrev pub opens : List Packet → List OpenCall
+  opens ps =
+      arrival 1 (numbered s start ps 1 .octets) (replicate 5 0)
+      ∷ other (numbered s start ps 1 .octets) (replicate 4 0)
+      ∷ other (0x00 ∷ 0xFD ∷ []) []
+      ∷ arrival 2 (numbered s start ps 2 .octets) (replicate 2 0)
+      ∷ []
+
+  -- what open gives: two key changes for the second packet, 6, 1, and one key change for the third
+  abbrev pub opened : List Packet → List Result
+  opened ps =
+      finished 2 (numbered s start ps 1 .link) (plain₁ ++ (0 ∷ []))
+      ∷ refusal repeat (numbered s start ps 1 .link) (replicate 4 0)
+      ∷ refusal shape (numbered s start ps 1 .link) []
+      ∷ finished 1 (numbered s start ps 2 .link) plain₂
+      ∷ []
+
+  -- three packets are sealed
+  abbrev three : List Packet
+  three = packetAt s start 0 plain₀ ∷ packetAt s start 1 plain₁ ∷ packetAt s start 2 plain₂ ∷ []
+
+  sealed-three : length start ≡ keyLength s → sealed ≡ three
+  unfolding packets saidCode onward historyAt keyAt changes
+  sealed-three h = rw (← packet-is s start 0 plain₀ h, ← packet-is s start 1 plain₁ h, ← packet-is s start 2 plain₂ h)
+
+  -- the repeat is refused with 6, the noise with 1
+  again : length start ≡ keyLength s → openCode longestPlain (numbered s start three 1 .link) (numbered s start three 1 .octets) 4 ≡ repeat
+  unfolding numbered packetAt
+  again h = repeat-code longestPlain s start 1 plain₁ 4 h (refl, refl)
+
+  noise : length start ≡ keyLength s → openCode longestPlain (numbered s start three 1 .link) (0x00 ∷ 0xFD ∷ []) 0 ≡ shape
+  unfolding numbered packetAt openCode
+  noise h = rw (well-at s start 2 h)
+
+  meets-three : length start ≡ keyLength s → Meets longestPlain s start three mostLost 0 (first s start) (opens three)
+  unfolding Meets
+  meets-three h =
+      let (long₁, long₂) : (length (numbered s start three 1 .plain) ≤ 5) × (length (numbered s start three 2 .plain) ≤ 2) =
+          unfold numbered packetAt in (lit≤ tt, lit≤ tt) in
+      (lit< tt, lit≤ tt, lit≤ tt, refl, long₁, ((λ z. omega (arith, again h, z)), ((λ z. omega (arith, noise h, z)), (lit< tt, lit≤ tt, lit≤ tt, refl, long₂, tt))))
+
+  pub meets : newLink s start .answer ≡ done → Meets longestPlain s start sealed mostLost 0 (first s start) (opens sealed)
+  meets ok =
+      let h = start-length s start ok in
+      subst⁻¹ (λ (ps : List Packet). Meets longestPlain s start ps mostLost 0 (first s start) (opens ps)) (sealed-three h) (meets-three h)
+
+  due-three : length start ≡ keyLength s → due longestPlain s start three 0 (first s start) (opens three) ≡ opened three
+  unfolding due numbered packetAt
+  due-three h = rw (again h, noise h)
+
+  -- the claim, of this run
+  pub run-seals : newLink s start .answer ≡ done → map answered (sealRun longestPlain (first s start) seals) ≡ done ∷ size ∷ done ∷ done ∷ []
+  unfolding Demand3 said saidCode onward packetOf
+  run-seals ok = ap (map answered) (demand-3-base s start ok seals (opens sealed) (meets ok) .0)
+
+  pub run-opens : newLink s start .answer ≡ done → openRun longestPlain (first s start) (opens sealed) ≡ opened sealed
+  unfolding Demand3
+  run-opens ok = demand-3-base s start ok seals (opens sealed) (meets ok) .1 ∙ rw (sealed-three (start-length s start ok)) (due-three (start-length s start ok))
