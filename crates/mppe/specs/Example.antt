@@ -36,7 +36,6 @@ seals =
     ∷ []
 
 module _ (s : Strength) (start : List ℕ) where
-
   abbrev pub sealed : List Packet
   sealed = packets longestPlain s start (beginning s start) seals
 
@@ -63,23 +62,29 @@ module _ (s : Strength) (start : List ℕ) where
 
   sealed-three : length start ≡ keyLength s → sealed ≡ three
   unfolding packets saidCode onward historyAt keyAt changes
-  sealed-three h = rw (← packet-is s start 0 plain₀ h, ← packet-is s start 1 plain₁ h, ← packet-is s start 2 plain₂ h)
+  sealed-three h = rw (← packet-is s start h 0 plain₀, ← packet-is s start h 1 plain₁, ← packet-is s start h 2 plain₂)
 
   -- the repeat is refused with 6, the noise with 1
   again : length start ≡ keyLength s → openCode longestPlain (numbered s start three 1 .link) (numbered s start three 1 .octets) 4 ≡ repeat
   unfolding numbered packetAt
-  again h = repeat-code longestPlain s start 1 plain₁ 4 h (refl, refl)
+  again h = repeat-code s start h longestPlain 1 plain₁ 4 (refl, refl)
 
   noise : length start ≡ keyLength s → openCode longestPlain (numbered s start three 1 .link) (0x00 ∷ 0xFD ∷ []) 0 ≡ shape
   unfolding numbered packetAt openCode
-  noise h = rw (well-at s start 2 h)
+  noise h = rw (well-at s start h 2)
 
   meets-three : length start ≡ keyLength s → Meets longestPlain s start three mostLost 0 (first s start) (opens three)
   unfolding Meets
   meets-three h =
       let (long₁, long₂) : (length (numbered s start three 1 .plain) ≤ 5) × (length (numbered s start three 2 .plain) ≤ 2) =
-          unfold numbered packetAt in (lit≤ tt, lit≤ tt) in
-      (lit< tt, lit≤ tt, lit≤ tt, refl, long₁, ((λ z. omega (arith, again h, z)), ((λ z. omega (arith, noise h, z)), (lit< tt, lit≤ tt, lit≤ tt, refl, long₂, tt))))
+      unfold numbered packetAt in (lit≤ tt, lit≤ tt) in (
+        lit< tt,
+        lit≤ tt,
+        lit≤ tt,
+        refl,
+        long₁,
+        ((λ z. omega (arith, again h, z)), ((λ z. omega (arith, noise h, z)), (lit< tt, lit≤ tt, lit≤ tt, refl, long₂, tt))),
+      )
 
   pub meets : newLink s start .answer ≡ done → Meets longestPlain s start sealed mostLost 0 (first s start) (opens sealed)
   meets ok =
@@ -97,4 +102,6 @@ module _ (s : Strength) (start : List ℕ) where
 
   pub run-opens : newLink s start .answer ≡ done → openRun longestPlain (first s start) (opens sealed) ≡ opened sealed
   unfolding Demand3
-  run-opens ok = demand-3-base s start ok seals (opens sealed) (meets ok) .1 ∙ rw (sealed-three (start-length s start ok)) (due-three (start-length s start ok))
+  run-opens ok =
+      let h = start-length s start ok in
+      demand-3-base s start ok seals (opens sealed) (meets ok) .1 ∙ rw (sealed-three h) (due-three h)
