@@ -149,7 +149,9 @@ nextKey l = keyChange (l .strength) (startKeyIn l) (sessionKeyIn l)
 unfoldable pub sealResult : ℕ → Link → List ℕ → List ℕ → Result
 sealResult limit l plain out =
     let code : ℕ = sealCode limit l plain (length out) in
-    onDone code (finished 1 (renewed l (nextKey l) (nextCount l)) (written (sealedPacket (nextKey l) (nextCount l) plain) out)) (refusal code l out)
+    onDone code
+    (finished 1 (renewed l (nextKey l) (nextCount l)) (written (sealedPacket (nextKey l) (nextCount l) plain) out))
+    (refusal code l out)
 
 -- "1 to 4,095 means that many key changes"
 abbrev pub changesFor : Link → List ℕ → ℕ
@@ -193,4 +195,6 @@ openCode limit l packet lent = firstOf (frontRows limit l packet lent ++ ((proto
 unfoldable pub openResult : ℕ → Link → List ℕ → List ℕ → Result
 openResult limit l packet out =
     let code : ℕ = openCode limit l packet (length out) in
-    onDone code (finished (changesFor l packet) (renewed l (keyFor l packet) (countIn packet)) (written (plainFor l packet) out)) (refusal code l out)
+    onDone code
+    (finished (changesFor l packet) (renewed l (keyFor l packet) (countIn packet)) (written (plainFor l packet) out))
+    (refusal code l out)

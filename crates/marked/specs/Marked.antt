@@ -1,0 +1,77 @@
+-- The fourteen marked cases of 01, K1 to K14: a list of pairs of what the definitions give and what 01 says, under one claim.
+use mathlib.Core.Path.{_≡_, refl}
+use mathlib.Core.Bool.{true, false}
+use mathlib.Core.List.{List, [], _∷_}
+use Prim.Native.Nat.{ℕ}
+use Rattle.answer.specs.Answer.{done, strength}
+use Rattle.octets.specs.Octets.{bigEndian}
+use Rattle.mppe_keys.specs.declared.Strength.the-variants.{Bits40, Bits56, Bits128}
+use Rattle.mppe_keys.specs.Keys.{headOf, reduced}
+use Rattle.ccp.specs.declared.Mode.the-variants.{Stateless}
+use Rattle.ccp.specs.declared.Strengths.{Strengths}
+use Rattle.ccp.specs.declared.Choice.{Choice}
+use Rattle.ccp.specs.declared.Offer.{Offer}
+use Rattle.ccp.specs.declared.Reply.{Reply}
+use Rattle.ccp.specs.declared.Reply.the-variants.{CounterOffer, Refused}
+use Rattle.ccp.specs.Option.{optionType, optionLength, modeOf, strengthsOf, wordOf, only}
+use Rattle.ccp.specs.Answers.{readNumber, supportedBits, readAnswer, replyNumber, chosen, replyWith, replyAnswer, replyWord}
+use Rattle.mppe.specs.Link.{distance, header}
+use Rattle.sstp.specs.Binding.{lengthOctets}
+
+-- what is given, and what must be
+pub record Pair : Type 1 where
+  pub A : Type 0
+  pub given : A
+  pub expected : A
+
+abbrev pub pair : {A : Type 0} → A → A → Pair
+pair {A} given expected = record { A = A; given = given; expected = expected }
+
+-- both are the same in every pair
+abbrev pub AllEqual : List Pair → Type 0
+AllEqual [] = Unit {0}
+AllEqual (p ∷ ps) = (p .given ≡ p .expected) × AllEqual ps
+
+-- an option's six octets with these supported bits
+abbrev option : ℕ → List ℕ
+option word = optionType ∷ optionLength ∷ bigEndian 4 word
+
+-- all strengths allowed
+abbrev every : Strengths
+every = record { bits40 = true; bits56 = true; bits128 = true }
+
+-- a counter-offer with its word
+abbrev pub replied : List ℕ → Strengths → Reply × ℕ
+replied request allowed = (replyAnswer request allowed, replyWord (replyAnswer request allowed))
+
+abbrev pub cases : List Pair
+cases =
+    -- "K1 to K5, distance for last, arrived: (4095, 0) 1; (2, 5) 3; (4094, 1) 3; (0, 4095) 4095; (7, 7) 0."
+    pair (distance 4095 0) 1
+    ∷ pair (distance 2 5) 3
+    ∷ pair (distance 4094 1) 3
+    ∷ pair (distance 0 4095) 4095
+    ∷ pair (distance 7 7) 0
+    -- "K6 to K8, headers: count 0 is 90 00; 256 is 91 00; 4095 is 9F FF."
+    ∷ pair (header 0) (0x90 ∷ 0x00 ∷ [])
+    ∷ pair (header 256) (0x91 ∷ 0x00 ∷ [])
+    ∷ pair (header 4095) (0x9F ∷ 0xFF ∷ [])
+    -- "K9: 01000040 reads stateless, 128."
+    ∷ pair (readAnswer (option 0x01000040)) (record { answer = done; mode = Stateless; strengths = only Bits128 })
+    -- "K10: request 010000E0, all allowed, counter-offer 01000040."
+    ∷ pair (replied (option 0x010000E0) every) (CounterOffer (record { strength = Bits128; mode = Stateless }), 0x01000040)
+    -- "K11: 00000020, all allowed, counter-offer 01000020."
+    ∷ pair (replied (option 0x00000020) every) (CounterOffer (record { strength = Bits40; mode = Stateless }), 0x01000020)
+    -- "K12: 01000020, only 128 allowed, 8."
+    ∷ pair (replyAnswer (option 0x01000020) (only Bits128)) (Refused strength)
+    -- "K13: D8 08 01 53 8C EC 4A 08 reduced to 56 is D1 08 01 53 8C EC 4A 08"
+    ∷ pair (reduced Bits56 (0xD8 ∷ 0x08 ∷ 0x01 ∷ 0x53 ∷ 0x8C ∷ 0xEC ∷ 0x4A ∷ 0x08 ∷ []))
+    (0xD1 ∷ 0x08 ∷ 0x01 ∷ 0x53 ∷ 0x8C ∷ 0xEC ∷ 0x4A ∷ 0x08 ∷ [])
+    -- "K14: length 32 is written 20 00."
+    ∷ pair lengthOctets (0x20 ∷ 0x00 ∷ [])
+    ∷ []
+
+-- the claim
+pub marked-cases : AllEqual cases
+unfolding readAnswer readNumber supportedBits modeOf strengthsOf replyAnswer replyNumber chosen replyWith wordOf reduced headOf
+marked-cases = (refl, (refl, (refl, (refl, (refl, (refl, (refl, (refl, (refl, (refl, (refl, (refl, (refl, (refl, tt))))))))))))))

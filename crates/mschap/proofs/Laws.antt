@@ -1,0 +1,407 @@
+-- Octets found and compared, texts joined, digits written, and the ways out of the calls.
+use mathlib.Core.Path.{_≡_, refl, sym, ap, _∙_}
+use mathlib.Core.Bool.{Bool, true, false, not, _&&_, and-assoc, and-true}
+use mathlib.Core.List.{List, [], _∷_, _++_, append-assoc, append-nil}
+use Prim.Native.Nat.{ℕ, zero, suc, _+_, _*_, _-_, _/_, _%_, _≤_, _<_}
+use native.Mathlib.Numerals.{add-one}
+use native.Mathlib.Nat.{not-suc-le-zero}
+use native.Mathlib.Decide.{ℕ-discrete}
+use native.Mathlib.Omega.{arith}
+use lib.Bits.{bitOr, bitXor, or-add-and, xor-add-and, and-le-l, and-le-r, xor-self}
+use lib.Dec.{eqb, ltb, eqb→eq}
+use lib.ListN.{length, take, drop, replicate, getD, length-append, length-drop, length-replicate, drop-of-length-le}
+use lib.Seq.{drop-cons, drop-drop, take-all, take-at, take-suc, take-append-seam, drop-append-add, length-take-le}
+use borrow.Author.Tests.{ltb-false, lt-ltb, le-ltb, eq-eqb, ne-eqb}
+use Rattle.answer.specs.Answer.{done, size, domain, pick, firstOf, onDone}
+use Rattle.octets.specs.Octets.{written, writtenAt, longestText}
+use Rattle.octets.proofs.Below.{below}
+use Rattle.octets.proofs.Laws.{copy-fits, append-more, drop-zeros}
+use Rattle.md4.specs.Md4.{md4, md4Answer}
+use Rattle.md4.specs.declared.Digest.{Digest as Md4Digest}
+use Rattle.md4.proofs.Laws.{md4-done}
+use Rattle.sha1.specs.Sha1.{sha1, sha1Answer}
+use Rattle.sha1.specs.declared.Digest.{Digest as Sha1Digest}
+use Rattle.sha1.proofs.Laws.{sha1-done}
+use Rattle.des.specs.Des.{encrypted, encryptAnswer}
+use Rattle.des.specs.declared.Block.{Block}
+use Rattle.des.proofs.Answered.{encrypt-done, length-encrypted}
+use Rattle.mschap.specs.declared.Hash.{Hash}
+use Rattle.mschap.specs.declared.ChallengeHash.{ChallengeHash}
+use Rattle.mschap.specs.declared.NtResponse.{NtResponse}
+use Rattle.mschap.specs.declared.AuthenticatorString.{AuthenticatorString}
+use Rattle.mschap.specs.declared.Checked.{Checked}
+use Rattle.mschap.specs.declared.HashedName.{HashedName}
+use Rattle.mschap.specs.Lengths.{longestPassword, longestName}
+use Rattle.mschap.specs.Name.{backslash, holds, nameRows, hashedName}
+use Rattle.mschap.specs.Mschap.{passwordHash, hashHash, challengeHash, zPasswordHash, challengeResponse, ntResponse, magic1, magic2, hexDigit, hexDigits, encoded, signature, authenticatorString, equal}
+use Rattle.mschap.specs.Answers.{wrong, passwordRows, responseRows, stringRows, hashAnswer, challengeAnswer, responseAnswer, stringAnswer, checkAnswer, nameAnswer, ntResponseAnswer, authenticatorStringAnswer, checkResponseAnswer, checkAuthenticatorAnswer}
+use Rattle.mschap.specs.Laws.{name-fits, hexDigits-length}
+
+-- an octet looked for: it stands here, not here, nowhere
+pub found : (x : ℕ) (l : List ℕ) (i : ℕ) → holds x l ≡ holds x (drop i l) → getD l i 0 ≡ x → i < length l → true ≡ holds x l
+unfolding holds
+found x l i e ex h = rw (e, drop-cons l i 0 h, eq-eqb (getD l i 0) x ex)
+
+pub not-here : (x : ℕ) (l : List ℕ) (i : ℕ) → holds x l ≡ holds x (drop i l) → (getD l i 0 ≡ x → ⊥) → i < length l
+    → holds x l ≡ holds x (drop (i + 1) l)
+unfolding holds
+not-here x l i e ex h = e ∙ rw (drop-cons l i 0 h, ne-eqb (getD l i 0) x ex, add-one)
+
+pub nowhere : (x : ℕ) (l : List ℕ) (i : ℕ) → holds x l ≡ holds x (drop i l) → length l ≤ i → false ≡ holds x l
+unfolding holds
+nowhere x l i e h = rw (e, drop-of-length-le l {i = i} h)
+
+-- octets differ nowhere exactly if the differences, joined, are 0
+or-none : (a b : ℕ) → bitOr a b ≡ 0 → (a ≡ 0) × (b ≡ 0)
+or-none a b e =
+    let s = or-add-and a b in
+    let l = and-le-l a b in
+    let r = and-le-r a b in
+    (omega arith, omega arith)
+
+xor-none : (a b : ℕ) → bitXor a b ≡ 0 → a ≡ b
+xor-none a b e =
+    let s = xor-add-and a b in
+    let l = and-le-l a b in
+    let r = and-le-r a b in
+    omega arith
+
+difference : (d x y : ℕ) → eqb (bitOr d (bitXor x y)) 0 ≡ (eqb d 0 && eqb x y)
+difference d x y = go (ℕ-discrete d 0) (ℕ-discrete x y)
+  where
+    go : Dec (d ≡ 0) → Dec (x ≡ y) → eqb (bitOr d (bitXor x y)) 0 ≡ (eqb d 0 && eqb x y)
+    go (yes p) (yes q) = rw (p, q, xor-self y, eq-eqb y y refl)
+    go (yes p) (no q) = rw (p, ne-eqb x y q, ne-eqb (bitOr 0 (bitXor x y)) 0 (λ e. q (xor-none x y (or-none 0 (bitXor x y) e .1))))
+    go (no p) q = rw (ne-eqb d 0 p, ne-eqb (bitOr d (bitXor x y)) 0 (λ e. p (or-none d (bitXor x y) e .0)))
+
+equal-more : (a b : List ℕ) (i : ℕ) → i < length a → i < length b
+    → (equal (take i a) (take i b) && eqb (getD a i 0) (getD b i 0)) ≡ equal (take (suc i) a) (take (suc i) b)
+unfolding equal
+equal-more [] b i ha hb = absurd (not-suc-le-zero ha)
+equal-more (x ∷ xs) [] i ha hb = absurd (not-suc-le-zero hb)
+equal-more (x ∷ xs) (y ∷ ys) zero ha hb = rw and-true
+equal-more (x ∷ xs) (y ∷ ys) (suc i) ha hb = rw (and-assoc, equal-more xs ys i (omega arith) (omega arith))
+
+pub compared : (a b : List ℕ) (d i : ℕ) → eqb d 0 ≡ equal (take i a) (take i b) → i < length a → i < length b
+    → eqb (bitOr d (bitXor (getD a i 0) (getD b i 0))) 0 ≡ equal (take (i + 1) a) (take (i + 1) b)
+compared a b d i e ha hb = difference d (getD a i 0) (getD b i 0) ∙ rw (e, add-one, equal-more a b i ha hb)
+
+pub compared-all : (a b : List ℕ) (d i n : ℕ) → eqb d 0 ≡ equal (take i a) (take i b) → i ≡ n → eqb d 0 ≡ equal (take n a) (take n b)
+compared-all a b d i n e ei = rw (← ei) e
+
+-- one text more behind those that a buffer begins with
+grown : {t t′ : List ℕ} (l rest x : List ℕ) (at : ℕ) → t ≡ l ++ rest → t′ ≡ writtenAt at (take (length t - at) x) t → length l ≡ at
+    → length x ≤ length rest → t′ ≡ (l ++ x) ++ drop (length x) rest
+grown {t} l rest x at e e′ h hx =
+    let size : length t ≡ length l + length rest = ap length e ∙ length-append l rest in
+    e′ ∙ copy-fits at x t (omega arith) ∙ rw (e, ← h, take-append-seam l rest, drop-append-add l rest (length x), append-assoc)
+
+pub joined : {t₁ t₂ t₃ : List ℕ} (a b c t : List ℕ) → t₁ ≡ writtenAt 0 (take (length t - 0) a) t
+    → t₂ ≡ writtenAt (length a) (take (length t₁ - length a) b) t₁
+    → t₃ ≡ writtenAt (length a + length b) (take (length t₂ - (length a + length b)) c) t₂
+    → length a + length b + length c ≤ length t → t₃ ≡ written (a ++ b ++ c) t
+joined a b c t e₁ e₂ e₃ h =
+    let g₁ = grown [] t a 0 refl e₁ refl (omega arith) in
+    let r₁ : length (drop (length a) t) ≡ length t - length a = length-drop (length a) t in
+    let g₂ = grown a (drop (length a) t) b (length a) g₁ e₂ refl (omega arith) in
+    let r₂ : length (drop (length b) (drop (length a) t)) ≡ length t - length a - length b = length-drop (length b) (drop (length a) t)
+    ∙ rw r₁ in
+    let front : length (a ++ b) ≡ length a + length b = length-append a b in
+    let g₃ = grown (a ++ b) (drop (length b) (drop (length a) t)) c (length a + length b) g₂ e₃ front (omega arith) in
+    let all : length (a ++ b ++ c) ≡ length a + (length b + length c) = simp length-append (omega arith) in
+    g₃ ∙ rw (all, drop-drop (length c) (length b), drop-drop (length b + length c) (length a))
+
+-- the digest of a text within its limit
+pub md4-octets : {d : Md4Digest} (text : List ℕ) → d ≡ md4Answer text → length text ≤ longestText → d .octets ≡ md4 text
+md4-octets text e h = rw (e, md4-done text h)
+
+pub sha1-octets : {d : Sha1Digest} {t : List ℕ} (a b c z : List ℕ) → t ≡ written (a ++ b ++ c) z → d ≡ sha1Answer
+    (take (length a + length b + length c) t)
+    → length a + length b + length c ≤ 288 → d .octets ≡ sha1 (a ++ b ++ c)
+sha1-octets a b c z et e h =
+    let text : List ℕ = a ++ b ++ c in
+    let all : length text ≡ length a + length b + length c = simp length-append (omega arith) in
+    rw (e, et, take-at text (drop (length text) z) (length a + length b + length c) all, sha1-done text (omega arith))
+
+pub des-octets : {d : Block} (key block : List ℕ) → d ≡ encryptAnswer key block → length key ≡ 7 → length block ≡ 8
+    → d .octets ≡ encrypted key block
+des-octets key block e hk hb = rw (e, encrypt-done key block hk hb)
+
+-- the first n octets of more, in a buffer of their length
+pub front-copied : {r : List ℕ} (n : ℕ) (l : List ℕ) → r ≡ written (take n l) (replicate n 0) → n ≤ length l → r ≡ take n l
+front-copied n l e h =
+    e ∙ rw (
+      length-take-le n l h,
+      drop-of-length-le {A = ℕ} (replicate n 0) {i = n}
+          (rw (length-replicate {A = ℕ} n 0) (omega arith)),
+      append-nil,
+    )
+
+-- a password's hash padded to three keys
+hash-padded : {key : List ℕ} (hash : List ℕ) → key ≡ written (take 21 hash) (replicate 21 0) → length hash ≡ 16 → key ≡ zPasswordHash hash
+unfolding zPasswordHash
+hash-padded hash e h = rw (e, take-all 21 hash (omega arith), h)
+
+pub response-joined : {key first second third r : List ℕ} (challenge hash : List ℕ) → key ≡ written (take 21 hash) (replicate 21 0)
+    → first ≡ encrypted (take 7 key) challenge → second ≡ encrypted (take 7 (drop 7 key)) challenge
+    → third ≡ encrypted (take 7 (drop 14 key)) challenge → r ≡ written (first ++ second ++ third) (replicate 24 0) → length hash ≡ 16
+    → r ≡ challengeResponse challenge hash
+unfolding challengeResponse
+response-joined {key} {first} {second} {third} challenge hash ek e₁ e₂ e₃ er h =
+    let l₁ : length first ≡ 8 = ap length e₁ ∙ length-encrypted (take 7 key) challenge in
+    let l₂ : length second ≡ 8 = ap length e₂ ∙ length-encrypted (take 7 (drop 7 key)) challenge in
+    let l₃ : length third ≡ 8 = ap length e₃ ∙ length-encrypted (take 7 (drop 14 key)) challenge in
+    let all : length (first ++ second ++ third) ≡ 24 = simp length-append (omega arith) in
+    er ∙ rw (all, append-nil, e₁, e₂, e₃, hash-padded hash ek h)
+
+-- hexadecimal digits, by arithmetic
+digit : ℕ → ℕ
+digit x = pick (ltb x 10) (48 + x) (65 + (x - 10))
+
+digit-is : (x : ℕ) → x < 16 → digit x ≡ hexDigit x
+unfolding digit hexDigit
+digit-is x h = eqb→eq (digit x) (hexDigit x) (below (λ n. eqb (digit n) (hexDigit n)) 16 tt x h)
+
+pub digit-low : (x : ℕ) → x < 16 → x < 10 → 48 + x ≡ hexDigit x
+unfolding digit
+digit-low x h h′ = (rw (lt-ltb x 10 h′)) ∙ digit-is x h
+
+pub digit-high : (x : ℕ) → x < 16 → 10 ≤ x → 65 + (x - 10) ≡ hexDigit x
+unfolding digit
+digit-high x h h′ = (rw (le-ltb x 10 h′)) ∙ digit-is x h
+
+-- the digits of one octet more
+digits-snoc : (l : List ℕ) (x : ℕ) → hexDigits (l ++ x ∷ []) ≡ hexDigits l ++ (hexDigit (x / 16) ∷ hexDigit (x % 16) ∷ [])
+unfolding hexDigits
+digits-snoc [] x = refl
+digits-snoc (y ∷ ys) x = rw (digits-snoc ys x)
+
+pub encoded-more : {s s′ q : List ℕ} (d : List ℕ) (i : ℕ) → s ≡ encoded (take i d) ++ replicate (40 - 2 * i) 0
+    → q ≡ hexDigit (getD d i 0 / 16) ∷ hexDigit (getD d i 0 % 16) ∷ [] → s′ ≡ writtenAt (2 * i + 2) (take (length s - (2 * i + 2)) q) s
+    → i < length d → i < 20 → s′ ≡ encoded (take (i + 1) d) ++ replicate (40 - 2 * (i + 1)) 0
+unfolding encoded
+encoded-more {s} {s′} {q} d i e eq e′ h h′ =
+    let two : length q ≡ 2 = ap length eq in
+    let place : 2 * i + 2 ≡ length (encoded (take i d)) =
+    sym (ap (λ (n : ℕ). suc (suc n)) (hexDigits-length (take i d) ∙ ap (λ (n : ℕ). 2 * n) (length-take-le i d (omega arith)))
+    ∙ omega arith) in
+    let left : 40 - 2 * i - 2 ≡ 40 - 2 * (i + 1) = omega arith in
+    append-more (encoded (take i d)) q (2 * i + 2) (40 - 2 * i) e e′ place (omega arith)
+    ∙ rw (two, left, eq, add-one, take-suc d i 0 h, digits-snoc (take i d) (getD d i 0))
+
+pub encoded-all : {s : List ℕ} (d : List ℕ) (i : ℕ) → s ≡ encoded (take i d) ++ replicate (40 - 2 * i) 0 → i ≡ 20 → length d ≡ 20
+    → s ≡ encoded d
+encoded-all d i e ei h = e ∙ rw (ei, take-all 20 d (omega arith), append-nil)
+
+-- the string of a password's hash
+pub signed : {hh digest last r : List ℕ} (hash response challenge m₁ m₂ : List ℕ) → hh ≡ md4 hash → digest ≡ sha1 (hh ++ response ++ m₁)
+    → last ≡ sha1 (digest ++ challenge ++ m₂) → r ≡ encoded last → m₁ ≡ magic1 → m₂ ≡ magic2 → r ≡ signature hash response challenge
+unfolding signature hashHash
+signed hash response challenge m₁ m₂ eh ed el er e₁ e₂ = rw (er, el, ed, eh, e₁, e₂)
+
+-- a size is not 0
+pub not-size : size ≡ 0 → ⊥
+not-size e = absurd (omega arith)
+
+-- the number of a row that applies, and one behind a row that does not
+pub row-wrong : (n : ℕ) (input : List ℕ) (rest : ℕ) → (length input ≡ n → ⊥) → size ≡ pick (wrong n input) size rest
+row-wrong n input rest h = rw (ne-eqb (length input) n h)
+
+pub behind : {number : ℕ} (n : ℕ) (input : List ℕ) (rest : ℕ) → length input ≡ n → number ≡ rest → number ≡ pick (wrong n input) size rest
+behind n input rest h e = e ∙ rw (eq-eqb (length input) n h)
+
+pub password-long : (password : List ℕ) → longestPassword < length password → size ≡ firstOf (passwordRows password)
+password-long password h = rw (lt-ltb longestPassword (length password) h)
+
+pub password-odd : (password : List ℕ) → length password ≤ longestPassword → (length password % 2 ≡ 0 → ⊥) → size ≡ firstOf
+    (passwordRows password)
+password-odd password h e = rw (le-ltb longestPassword (length password) h, ne-eqb (length password % 2) 0 e)
+
+-- the front of a list is as long as asked
+pub count : (n : ℕ) (l : List ℕ) → n ≤ length l → n ≡ length (take n l)
+count n l h = sym (length-take-le n l h)
+
+-- what is not 0 is a refusal
+not-done : {A : Type 0} (number : ℕ) (result refused : A) → (number ≡ 0 → ⊥) → onDone number result refused ≡ refused
+not-done zero result refused h = absurd (h refl)
+not-done (suc n) result refused h = refl
+
+-- the ways out of the calls, a refusal and a result, and what a caller learns from an answer
+pub hash-refused : {n : ℕ} (number : ℕ) (hash : List ℕ) → n ≡ number → (n ≡ 0 → ⊥)
+    → _≡_ {A = Hash} (record { answer = n; octets = replicate 16 0 }) (hashAnswer number hash)
+unfolding hashAnswer
+hash-refused number hash e h = rw (e, not-done number hash (replicate 16 0) (λ z. h (e ∙ z)))
+
+pub hash-done : {o : List ℕ} (number : ℕ) (hash : List ℕ) → number ≡ 0 → o ≡ hash
+    → _≡_ {A = Hash} (record { answer = 0; octets = o }) (hashAnswer number hash)
+unfolding hashAnswer
+hash-done number hash e eo = rw (e, eo)
+
+pub hash-told : {x : Hash} (number : ℕ) (hash : List ℕ) → x ≡ hashAnswer number hash → (x .answer ≡ number) ×
+    (x .answer ≡ 0 → x .octets ≡ hash)
+unfolding hashAnswer
+hash-told number hash e = (ap (λ (x : Hash). x .answer) e, λ z. rw (e, sym (ap (λ (x : Hash). x .answer) e) ∙ z))
+
+pub challenge-refused : {n : ℕ} (number : ℕ) (hash : List ℕ) → n ≡ number → (n ≡ 0 → ⊥)
+    → _≡_ {A = ChallengeHash} (record { answer = n; octets = replicate 8 0 }) (challengeAnswer number hash)
+unfolding challengeAnswer
+challenge-refused number hash e h = rw (e, not-done number hash (replicate 8 0) (λ z. h (e ∙ z)))
+
+pub challenge-done : {o : List ℕ} (number : ℕ) (hash : List ℕ) → number ≡ 0 → o ≡ hash
+    → _≡_ {A = ChallengeHash} (record { answer = 0; octets = o }) (challengeAnswer number hash)
+unfolding challengeAnswer
+challenge-done number hash e eo = rw (e, eo)
+
+pub challenge-told : {x : ChallengeHash} (number : ℕ) (hash : List ℕ) → x ≡ challengeAnswer number hash → (x .answer ≡ number) ×
+    (x .answer ≡ 0 → x .octets ≡ hash)
+unfolding challengeAnswer
+challenge-told number hash e = (ap (λ (x : ChallengeHash). x .answer) e, λ z. rw (e, sym (ap (λ (x : ChallengeHash). x .answer) e) ∙ z))
+
+pub response-refused : {n : ℕ} (number : ℕ) (response : List ℕ) → n ≡ number → (n ≡ 0 → ⊥)
+    → _≡_ {A = NtResponse} (record { answer = n; octets = replicate 24 0 }) (responseAnswer number response)
+unfolding responseAnswer
+response-refused number response e h = rw (e, not-done number response (replicate 24 0) (λ z. h (e ∙ z)))
+
+pub response-done : {o : List ℕ} (number : ℕ) (response : List ℕ) → number ≡ 0 → o ≡ response
+    → _≡_ {A = NtResponse} (record { answer = 0; octets = o }) (responseAnswer number response)
+unfolding responseAnswer
+response-done number response e eo = rw (e, eo)
+
+pub response-told : {x : NtResponse} (number : ℕ) (response : List ℕ) → x ≡ responseAnswer number response → (x .answer ≡ number) ×
+    (x .answer ≡ 0 → x .octets ≡ response)
+unfolding responseAnswer
+response-told number response e = (ap (λ (x : NtResponse). x .answer) e, λ z. rw (e, sym (ap (λ (x : NtResponse). x .answer) e) ∙ z))
+
+pub string-refused : {n : ℕ} (number : ℕ) (string : List ℕ) → n ≡ number → (n ≡ 0 → ⊥)
+    → _≡_ {A = AuthenticatorString} (record { answer = n; octets = replicate 42 0 }) (stringAnswer number string)
+unfolding stringAnswer
+string-refused number string e h = rw (e, not-done number string (replicate 42 0) (λ z. h (e ∙ z)))
+
+pub string-done : {o : List ℕ} (number : ℕ) (string : List ℕ) → number ≡ 0 → o ≡ string
+    → _≡_ {A = AuthenticatorString} (record { answer = 0; octets = o }) (stringAnswer number string)
+unfolding stringAnswer
+string-done number string e eo = rw (e, eo)
+
+pub string-told : {x : AuthenticatorString} (number : ℕ) (string : List ℕ) → x ≡ stringAnswer number string → (x .answer ≡ number) ×
+    (x .answer ≡ 0 → x .octets ≡ string)
+unfolding stringAnswer
+string-told number string e = (
+  ap (λ (x : AuthenticatorString). x .answer) e,
+  λ z. rw
+      (e, sym (ap (λ (x : AuthenticatorString). x .answer) e) ∙ z),
+)
+
+pub check-refused : {n : ℕ} (number : ℕ) (same : Bool) → n ≡ number → (n ≡ 0 → ⊥)
+    → _≡_ {A = Checked} (record { answer = n; yes = false }) (checkAnswer number same)
+unfolding checkAnswer
+check-refused number same e h = rw (e, not-done number same false (λ z. h (e ∙ z)))
+
+-- the ways out of a name
+pub name-long : (name : List ℕ) → longestName < length name
+    → _≡_ {A = HashedName} (record { answer = size; len = 0; octets = replicate 256 0 }) (nameAnswer name)
+unfolding nameAnswer
+name-long name h = rw (lt-ltb longestName (length name) h)
+
+pub name-domain : {t : Bool} (name : List ℕ) → t ≡ holds backslash name → length name ≤ longestName → t ≡ true
+    → _≡_ {A = HashedName} (record { answer = domain; len = 0; octets = replicate 256 0 }) (nameAnswer name)
+unfolding nameAnswer
+name-domain name et h e = rw (le-ltb longestName (length name) h, ← et, e)
+
+pub name-done : {t : Bool} {o : List ℕ} (name : List ℕ) → t ≡ holds backslash name → length name ≤ longestName → t ≡ false
+    → o ≡ written (take 256 name) (replicate 256 0)
+    → _≡_ {A = HashedName} (record { answer = done; len = length name; octets = o }) (nameAnswer name)
+unfolding nameAnswer hashedName
+name-done name et h e eo = rw (name-fits name h (sym et ∙ e), eo, take-all 256 name h, drop-zeros)
+
+-- what a caller learns from a name
+pub name-told : {u : HashedName} (name : List ℕ) → u ≡ nameAnswer name → u .answer ≡ firstOf (nameRows name)
+unfolding nameAnswer
+name-told name e = ap (λ (u : HashedName). u .answer) e
+
+name-part : {u : HashedName} (name : List ℕ) → u ≡ nameAnswer name → u .answer ≡ 0 → (u .len ≡ length (hashedName name)) ×
+    (take (u .len) (u .octets) ≡ hashedName name)
+unfolding nameAnswer
+name-part name e z =
+    let number : firstOf (nameRows name) ≡ 0 = sym (name-told name e) ∙ z in
+    (rw (e, number), rw (e, number, take-append-seam (hashedName name) (replicate (longestName - length (hashedName name)) 0)))
+
+name-short : (name : List ℕ) → firstOf (nameRows name) ≡ 0 → length (hashedName name) ≤ longestName
+unfolding hashedName
+name-short name h = go (ltb longestName (length name)) refl
+  where
+    go : (t : Bool) → ltb longestName (length name) ≡ t → length name ≤ longestName
+    go true e = absurd (not-size (rw e at h))
+    go false e = ltb-false longestName (length name) e
+
+pub name-len : {u : HashedName} (name : List ℕ) → u ≡ nameAnswer name → u .answer ≡ 0 → u .len ≤ 256
+name-len name e z = omega (arith, name-part name e z .0, name-short name (sym (name-told name e) ∙ z))
+
+pub challenge-hashed : {u : HashedName} {d o : List ℕ} (peer authenticator name : List ℕ) → u ≡ nameAnswer name → u .answer ≡ 0
+    → d ≡ sha1 (peer ++ authenticator ++ take (u .len) (u .octets)) → o ≡ take 8 d → o ≡ challengeHash peer authenticator name
+unfolding challengeHash
+challenge-hashed peer authenticator name e z ed eo = rw (eo, ed, name-part name e z .1)
+
+-- a number behind the rows of a password, and that of a password
+pub behind-password : {n m : ℕ} (password : List ℕ) (rows : List (ℕ × Bool)) → m ≡ firstOf (passwordRows password) → m ≡ 0
+    → n ≡ firstOf rows
+    → n ≡ firstOf (passwordRows password ++ rows)
+behind-password {n} password rows em z e = e ∙ go (ltb longestPassword (length password)) (eqb (length password % 2) 0) (sym em ∙ z)
+  where
+    go : (t u : Bool) → firstOf ((size, t) ∷ (size, not u) ∷ []) ≡ 0 → firstOf rows ≡ firstOf ((size, t) ∷ (size, not u) ∷ rows)
+    go true u f = absurd (not-size f)
+    go false true f = refl
+    go false false f = absurd (not-size f)
+
+pub by-password : {n : ℕ} (password : List ℕ) (rows : List (ℕ × Bool)) → n ≡ firstOf (passwordRows password) → (n ≡ 0 → ⊥)
+    → n ≡ firstOf (passwordRows password ++ rows)
+by-password {n} password rows e z = e ∙ go (ltb longestPassword (length password)) (eqb (length password % 2) 0) (λ f. z (e ∙ f))
+  where
+    go : (t u : Bool) → (firstOf ((size, t) ∷ (size, not u) ∷ []) ≡ 0 → ⊥)
+        → firstOf ((size, t) ∷ (size, not u) ∷ []) ≡ firstOf ((size, t) ∷ (size, not u) ∷ rows)
+    go true u f = refl
+    go false true f = absurd (f refl)
+    go false false f = refl
+
+-- the results of the calls that begin with a password
+pub response-made : {hash challenge o : List ℕ} (authenticator peer name password : List ℕ) → hash ≡ passwordHash password
+    → challenge ≡ challengeHash peer authenticator name → o ≡ challengeResponse challenge hash
+    → o ≡ ntResponse authenticator peer name password
+unfolding ntResponse
+response-made authenticator peer name password eh ec eo = rw (eo, eh, ec)
+
+pub string-made : {hash challenge o : List ℕ} (password response peer authenticator name : List ℕ) → hash ≡ passwordHash password
+    → challenge ≡ challengeHash peer authenticator name → o ≡ signature hash response challenge
+    → o ≡ authenticatorString password response peer authenticator name
+unfolding authenticatorString
+string-made password response peer authenticator name eh ec eo = rw (eo, eh, ec)
+
+-- what is received, held against the result
+checked : {t : Bool} {own : List ℕ} (n number : ℕ) (result received : List ℕ) → number ≡ 0 → own ≡ result → length own ≡ n
+    → length received ≡ n
+    → t ≡ equal (take n own) (take n received)
+    → _≡_ {A = Checked} (record { answer = 0; yes = t }) (checkAnswer (pick (wrong n received) size number) (equal result received))
+unfolding checkAnswer
+checked {t} {own} n number result received z e ho hr et =
+    rw (eq-eqb (length received) n hr, z, et, take-all n own (omega arith), take-all n received (omega arith), e)
+
+pub response-checked : {r : NtResponse} {t : Bool} (authenticator peer name password received : List ℕ)
+    → r ≡ ntResponseAnswer authenticator peer name password → r .answer ≡ 0 → length (r .octets) ≡ 24 → length received ≡ 24
+    → t ≡ equal (take 24 (r .octets)) (take 24 received)
+    → _≡_ {A = Checked} (record { answer = 0; yes = t }) (checkResponseAnswer authenticator peer name password received)
+unfolding ntResponseAnswer checkResponseAnswer
+response-checked authenticator peer name password received e z ho hr et =
+    let number : ℕ = firstOf (responseRows authenticator peer name password) in
+    let result : List ℕ = ntResponse authenticator peer name password in
+    let told = response-told number result e in
+    checked 24 number result received (sym (told .0) ∙ z) (told .1 z) ho hr et
+
+pub string-checked : {r : AuthenticatorString} {t : Bool} (password response peer authenticator name received : List ℕ)
+    → r ≡ authenticatorStringAnswer password response peer authenticator name → r .answer ≡ 0 → length (r .octets) ≡ 42 → length received ≡ 42
+    → t ≡ equal (take 42 (r .octets)) (take 42 received)
+    → _≡_ {A = Checked} (record { answer = 0; yes = t }) (checkAuthenticatorAnswer password response peer authenticator name received)
+unfolding authenticatorStringAnswer checkAuthenticatorAnswer
+string-checked password response peer authenticator name received e z ho hr et =
+    let number : ℕ = firstOf (stringRows password response peer authenticator name) in
+    let result : List ℕ = authenticatorString password response peer authenticator name in
+    let told = string-told number result e in
+    checked 42 number result received (sym (told .0) ∙ z) (told .1 z) ho hr et

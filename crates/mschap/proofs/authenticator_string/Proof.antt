@@ -1,0 +1,82 @@
+use mathlib.Core.Path.{sym, _∙_}
+use borrow.Author.Needs.{needs}
+use Rattle.mschap.specs.Answers.{challengeRows, passwordHashAnswer, challengeHashAnswer, authenticatorStringAnswer}
+use Rattle.mschap.proofs.Laws.{not-size, row-wrong, behind, by-password, behind-password, hash-told, challenge-told, string-made, string-refused, string-done}
+use Rattle.mschap.proofs.authenticator_string.Statement.{statement}
+use Rattle.mschap.proofs.authenticator_string.Tie as tie
+
+refused-string-requires : tie.Need-refused-string-requires
+refused-string-requires c κs = search needs
+
+returns : tie.Need-returns
+unfolding authenticatorStringAnswer
+returns c = c .refused-string .ensures ∙ string-refused _ _ (row-wrong 24
+    (c .before .before .before .before .before .before .before .args .response .now) _ (c .before .if1 .taken)) not-size
+
+password-hash-requires : tie.Need-password-hash-requires
+password-hash-requires c κs = search needs
+
+refused-string-requires-2 : tie.Need-refused-string-requires-2
+refused-string-requires-2 c κs = search needs
+
+returns-2 : tie.Need-returns-2
+unfolding authenticatorStringAnswer passwordHashAnswer
+returns-2 c = let s = c .before .before .before .before .before .before .before .before .before .before .args in
+    let n = c .before .if2 .taken in
+    c .refused-string2 .ensures ∙ string-refused _ _ (behind 24 (s .response .now) _ (c .before .before .before .before .if1 .left)
+    (by-password (s .password .now) (challengeRows (s .peer .now) (s .authenticator .now) (s .name .now))
+    (hash-told _ _ (c .before .before .before .password-hash .ensures) .0) n)) n
+
+challenge-hash-requires : tie.Need-challenge-hash-requires
+challenge-hash-requires c κs = search needs
+
+refused-string-requires-3 : tie.Need-refused-string-requires-3
+refused-string-requires-3 c κs = search needs
+
+returns-3 : tie.Need-returns-3
+unfolding authenticatorStringAnswer passwordHashAnswer challengeHashAnswer
+returns-3 c = let s = c .before .before .before .before .before .before .before .before .before .before .before .before .before .args in
+    c .refused-string3 .ensures ∙ string-refused _ _ (behind 24 (s .response .now) _
+    (c .before .before .before .before .before .before .before .if1 .left)
+    (behind-password (s .password .now) (challengeRows (s .peer .now) (s .authenticator .now) (s .name .now))
+    (hash-told _ _ (c .before .before .before .before .before .before .password-hash .ensures) .0)
+    (c .before .before .before .before .if2 .left) (challenge-told _ _ (c .before .before .before .challenge-hash .ensures) .0)))
+    (c .before .if3 .taken)
+
+slice-aggregate-signature : tie.Need-slice-aggregate-signature
+slice-aggregate-signature c = search needs
+
+slice-aggregate-signature-2 : tie.Need-slice-aggregate-signature-2
+slice-aggregate-signature-2 c = search needs
+
+signature-requires : tie.Need-signature-requires
+signature-requires c κs = search needs
+
+returns-4 : tie.Need-returns-4
+unfolding authenticatorStringAnswer passwordHashAnswer challengeHashAnswer
+returns-4 c = let s = c .before .before .before .before .before .before .before .before .before .before .before .before .before .before .before .before .before .args in
+    let z = c .before .before .before .before .before .before .before .before .if2 .left in
+    let z′ = c .before .before .before .before .before .if3 .left in
+    let h = hash-told _ _ (c .before .before .before .before .before .before .before .before .before .before .password-hash .ensures) in
+    let x = challenge-told _ _ (c .before .before .before .before .before .before .before .challenge-hash .ensures) in
+    string-done _ _ (sym (behind 24 (s .response .now) _
+    (c .before .before .before .before .before .before .before .before .before .before .before .if1 .left)
+    (behind-password (s .password .now) (challengeRows (s .peer .now) (s .authenticator .now) (s .name .now)) (h .0) z (x .0))) ∙ z′)
+    (string-made _ _ _ _ _ (h .1 z) (x .1 z′) (c .signature .ensures))
+
+pub authenticator-string-spec : {M : Type 1} → statement M
+authenticator-string-spec =
+    tie.close
+    (tie.spec
+    refused-string-requires
+    returns
+    password-hash-requires
+    refused-string-requires-2
+    returns-2
+    challenge-hash-requires
+    refused-string-requires-3
+    returns-3
+    slice-aggregate-signature
+    slice-aggregate-signature-2
+    signature-requires
+    returns-4)

@@ -1,0 +1,54 @@
+use mathlib.Core.Path.{_≡_, _∙_}
+use native.Mathlib.Omega.{arith}
+use lib.ListN.{length}
+use borrow.Author.Needs.{needs}
+use Rattle.mschap.specs.Answers.{ntResponseAnswer, checkResponseAnswer}
+use Rattle.mschap.proofs.Laws.{not-size, row-wrong, behind, response-told, check-refused, response-checked}
+use Rattle.mschap.proofs.check_response.Statement.{statement}
+use Rattle.mschap.proofs.check_response.Tie as tie
+
+refused-check-requires : tie.Need-refused-check-requires
+refused-check-requires c κs = search needs
+
+returns : tie.Need-returns
+unfolding checkResponseAnswer
+returns c = c .refused-check .ensures ∙ check-refused _ _ (row-wrong 24
+    (c .before .before .before .before .before .before .before .args .received .now) _ (c .before .if1 .taken)) not-size
+
+nt-response-requires : tie.Need-nt-response-requires
+nt-response-requires c κs = search needs
+
+refused-check-requires-2 : tie.Need-refused-check-requires-2
+refused-check-requires-2 c κs = search needs
+
+returns-2 : tie.Need-returns-2
+unfolding checkResponseAnswer ntResponseAnswer
+returns-2 c = c .refused-check2 .ensures ∙ check-refused _ _
+    (behind 24 (c .before .before .before .before .before .before .before .before .before .before .args .received .now) _
+    (c .before .before .before .before .if1 .left) (response-told _ _ (c .before .before .before .nt-response .ensures) .0))
+    (c .before .if2 .taken)
+
+slice-aggregate-same : tie.Need-slice-aggregate-same
+slice-aggregate-same c = search needs
+
+same-requires : tie.Need-same-requires
+same-requires c κs = let r = c .before .before .before .before .nt-response .result .octets in let size : length r ≡ 24 = search needs in
+    (omega arith, omega (arith, c .before .before .before .before .before .if1 .left))
+
+returns-3 : tie.Need-returns-3
+returns-3 c = let r = c .before .before .before .before .before .nt-response in
+    let size : length (r .result .octets) ≡ 24 = search needs in
+    response-checked _ _ _ _ _ (r .ensures) (c .before .before .before .if2 .left) size (c .before .before .before .before .before .before .if1 .left) (c .same .ensures)
+
+pub check-response-spec : {M : Type 1} → statement M
+check-response-spec =
+    tie.close
+    (tie.spec
+    refused-check-requires
+    returns
+    nt-response-requires
+    refused-check-requires-2
+    returns-2
+    slice-aggregate-same
+    same-requires
+    returns-3)

@@ -1,0 +1,13 @@
+use borrow.Author.Needs.{needs}
+use Rattle.mschap.proofs.Laws.{des-octets}
+use Rattle.mschap.proofs.encipher.Statement.{statement}
+use Rattle.mschap.proofs.encipher.Tie as tie
+
+encrypt-requires : tie.Need-encrypt-requires
+encrypt-requires c κs = search needs
+
+returns : tie.Need-returns
+returns c = let p = c .before .before .before .before .pre in des-octets _ _ (c .before .encrypt .ensures) (p .0) (p .1)
+
+pub encipher-spec : {M : Type 1} → statement M
+encipher-spec = tie.close (tie.spec encrypt-requires returns)

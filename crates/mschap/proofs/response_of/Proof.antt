@@ -1,0 +1,96 @@
+use native.Mathlib.Omega.{arith}
+use lib.Seq.{length-take-le}
+use borrow.Author.Needs.{needs}
+use Rattle.mschap.proofs.Laws.{count, response-joined}
+use Rattle.mschap.proofs.response_of.Statement.{statement}
+use Rattle.mschap.proofs.response_of.Tie as tie
+
+slice-aggregate-copy : tie.Need-slice-aggregate-copy
+slice-aggregate-copy c = search needs
+
+copy-requires : tie.Need-copy-requires
+copy-requires c κs = search needs
+
+array-share-prefix-key : tie.Need-array-share-prefix-key
+array-share-prefix-key c = search needs
+
+slice-aggregate-encipher : tie.Need-slice-aggregate-encipher
+slice-aggregate-encipher c = count 7 (c .before .before .copy .last .1 .0) (omega (arith, c .before .before .copy .kept .1 .0))
+
+encipher-requires : tie.Need-encipher-requires
+encipher-requires c κs = (
+  length-take-le 7 (c .before .before .copy .last .1 .0)
+      (omega (arith, c .before .before .copy .kept .1 .0)),
+  c .before .before .before .before .before .before .pre .0,
+)
+
+sub-encipher : tie.Need-sub-encipher
+sub-encipher c = search needs
+
+part-encipher-start : tie.Need-part-encipher-start
+part-encipher-start c = search needs
+
+part-encipher-end : tie.Need-part-encipher-end
+part-encipher-end c = search needs
+
+encipher-requires-2 : tie.Need-encipher-requires-2
+encipher-requires-2 c κs = search needs
+
+sub-encipher-2 : tie.Need-sub-encipher-2
+sub-encipher-2 c = search needs
+
+part-encipher-start-2 : tie.Need-part-encipher-start-2
+part-encipher-start-2 c = search needs
+
+part-encipher-end-2 : tie.Need-part-encipher-end-2
+part-encipher-end-2 c = search needs
+
+encipher-requires-3 : tie.Need-encipher-requires-3
+encipher-requires-3 c κs = search needs
+
+slice-aggregate-join : tie.Need-slice-aggregate-join
+slice-aggregate-join c = search needs
+
+slice-aggregate-join-2 : tie.Need-slice-aggregate-join-2
+slice-aggregate-join-2 c = search needs
+
+slice-aggregate-join-3 : tie.Need-slice-aggregate-join-3
+slice-aggregate-join-3 c = search needs
+
+slice-aggregate-join-4 : tie.Need-slice-aggregate-join-4
+slice-aggregate-join-4 c = search needs
+
+join-requires : tie.Need-join-requires
+join-requires c κs = search needs
+
+returns : tie.Need-returns
+returns c = response-joined _ _
+    (c .before .before .before .before .before .before .before .before .before .before .before .before .before .before .before .copy .ensures)
+    (c .before .before .before .before .before .before .before .before .before .before .before .before .encipher .ensures)
+    (c .before .before .before .before .before .before .before .before .before .encipher2 .ensures)
+    (c .before .before .before .before .before .before .encipher3 .ensures) (c .before .join .ensures)
+    (c .before .before .before .before .before .before .before .before .before .before .before .before .before .before .before .before .before .before .before .pre .1)
+
+pub response-of-spec : {M : Type 1} → statement M
+response-of-spec =
+    tie.close
+    (tie.spec
+    slice-aggregate-copy
+    copy-requires
+    array-share-prefix-key
+    slice-aggregate-encipher
+    encipher-requires
+    sub-encipher
+    part-encipher-start
+    part-encipher-end
+    encipher-requires-2
+    sub-encipher-2
+    part-encipher-start-2
+    part-encipher-end-2
+    encipher-requires-3
+    slice-aggregate-join
+    slice-aggregate-join-2
+    slice-aggregate-join-3
+    slice-aggregate-join-4
+    join-requires
+    returns)

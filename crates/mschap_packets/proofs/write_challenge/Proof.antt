@@ -1,0 +1,19 @@
+use borrow.Author.Needs.{needs}
+use Rattle.mschap_packets.proofs.Laws.{challenge-wrong, challenge-passed}
+use Rattle.mschap_packets.proofs.write_challenge.Statement.{statement}
+use Rattle.mschap_packets.proofs.write_challenge.Tie as tie
+
+returns : tie.Need-returns
+returns c = challenge-wrong _ _ _ _ (c .if1 .taken)
+
+write-requires : tie.Need-write-requires
+write-requires c κs = search needs
+
+same-length : tie.Need-same-length
+same-length c = search needs
+
+returns-2 : tie.Need-returns-2
+returns-2 c = challenge-passed _ _ _ _ (c .before .before .before .before .if1 .left) (c .before .before .write .ensures)
+
+pub write-challenge-spec : {M : Type 1} → statement M
+write-challenge-spec = tie.close (tie.spec returns write-requires same-length returns-2)

@@ -1,0 +1,146 @@
+-- Challenge and Response packets (RFC 1994, section 4.1; RFC 2759, sections 3 and 4), as 01, "MS-CHAPv2", condenses them.
+use mathlib.Core.Bool.{Bool, false, not, _||_}
+use mathlib.Core.List.{List, [], _∷_, _++_}
+use Prim.Native.Nat.{ℕ, _+_, _*_, _-_}
+use lib.Dec.{eqb, ltb}
+use lib.ListN.{length, take, drop, getD, replicate}
+use Rattle.answer.specs.Answer.{done, shape, room, size, firstOf, onDone}
+use Rattle.octets.specs.Octets.{bigEndian, written}
+use Rattle.mschap_packets.specs.declared.Kind.{Kind}
+use Rattle.mschap_packets.specs.declared.Kind.the-variants as kinds
+use Rattle.mschap_packets.specs.declared.Challenge.{Challenge}
+use Rattle.mschap_packets.specs.declared.Response.{Response}
+
+-- "Challenge: 16. NT-Response: 24.", "Name: 0 to 256" (01, "Lengths")
+abbrev pub challengeLength : ℕ
+challengeLength = 16
+
+abbrev pub responseLength : ℕ
+responseLength = 24
+
+abbrev pub longestName : ℕ
+longestName = 256
+
+-- "Challenge: code 1", "Response: code 2"
+abbrev pub codeOf : Kind → ℕ
+codeOf kinds.Challenge = 1
+codeOf kinds.Response = 2
+
+-- "size 16", "size 49"
+abbrev pub valueSize : Kind → ℕ
+valueSize kinds.Challenge = 16
+valueSize kinds.Response = 49
+
+-- the octets in front of a value: one of code, one of identifier, two of length, one of value size
+abbrev pub headerLength : ℕ
+headerLength = 5
+
+-- "length at least 21", "length at least 54"
+abbrev pub leastLength : Kind → ℕ
+leastLength kind = headerLength + valueSize kind
+
+-- "code, identifier, length (2, high octet first), value size", in front of the value
+unfoldable pub header : Kind → ℕ → ℕ → List ℕ
+header kind identifier n = codeOf kind ∷ identifier ∷ bigEndian 2 n ++ valueSize kind ∷ []
+
+-- a packet with its value and name
+unfoldable pub packetOf : Kind → ℕ → List ℕ → List ℕ → List ℕ
+packetOf kind identifier value name = header kind identifier (leastLength kind + length name) ++ value ++ name
+
+-- a Response's value: "peer challenge 16, zero 8, NT-Response 24, zero 1"
+unfoldable pub responseValue : List ℕ → List ℕ → List ℕ
+responseValue peer response = peer ++ replicate 8 0 ++ response ++ replicate 1 0
+
+-- n octets from a place of a packet on
+abbrev pub part : ℕ → ℕ → List ℕ → List ℕ
+part at n packet = take n (drop at packet)
+
+-- the length that a packet names
+abbrev pub lengthField : List ℕ → ℕ
+lengthField packet = 256 * getD packet 2 0 + getD packet 3 0
+
+-- the octets that are reserved, by their places in a packet: a Response has eight and one
+abbrev pub reserved : Kind → List ℕ → List ℕ
+reserved kinds.Challenge packet = []
+reserved kinds.Response packet = part 21 8 packet ++ part 53 1 packet
+
+-- whether one of them is not zero
+abbrev pub anySet : List ℕ → Bool
+anySet [] = false
+anySet (x ∷ xs) = not (eqb x 0) || anySet xs
+
+-- the number for a packet to be read: "Packet readers: 1, 3"
+unfoldable pub readNumber : Kind → List ℕ → ℕ
+readNumber kind packet =
+    firstOf
+    ((shape, ltb (length packet) (leastLength kind))
+    ∷ (shape, not (eqb (getD packet 0 0) (codeOf kind)))
+    ∷ (shape, not (eqb (getD packet 4 0) (valueSize kind)))
+    ∷ (shape, ltb (lengthField packet) (leastLength kind))
+    ∷ (shape, ltb (length packet) (lengthField packet))
+    ∷ (shape, anySet (reserved kind packet))
+    ∷ (size, ltb longestName (lengthField packet - leastLength kind))
+    ∷ [])
+
+-- a Challenge read: its value is its challenge
+unfoldable pub challengeRead : List ℕ → Challenge
+challengeRead packet =
+    let number : ℕ = readNumber kinds.Challenge packet in
+    onDone number
+    (record { answer = done; identifier = getD packet 1 0; value = part headerLength challengeLength packet })
+    (record { answer = number; identifier = 0; value = replicate 16 0 })
+
+-- a Response read: peer challenge and NT-Response by their places in the packet
+unfoldable pub responseRead : List ℕ → Response
+responseRead packet =
+    let number : ℕ = readNumber kinds.Response packet in
+    onDone number
+    (record {
+      answer = done;
+      identifier = getD packet 1 0;
+      «peer_challenge» = part headerLength challengeLength packet;
+      «nt_response» = part 29 responseLength packet;
+    })
+    (record { answer = number; identifier = 0; «peer_challenge» = replicate 16 0; «nt_response» = replicate 24 0 })
+
+-- the name: "that part of the caller's packet", from the end of the value to the length field; "a refused packet gives the empty part"
+unfoldable pub nameOf : Kind → List ℕ → List ℕ
+nameOf kind packet =
+    onDone (readNumber kind packet) (part (leastLength kind) (lengthField packet - leastLength kind) packet) []
+
+-- an input that has not the one length named
+abbrev pub wrong : ℕ → List ℕ → Bool
+wrong n input = not (eqb (length input) n)
+
+-- the number for a packet to be written, with or without a wrong length in its value: "Packet writers: 3, 2"
+unfoldable pub writeNumber : Bool → List ℕ → List ℕ → List ℕ → ℕ
+writeNumber wrongValue packet name out =
+    firstOf ((size, wrongValue) ∷ (size, ltb longestName (length name)) ∷ (room, ltb (length out) (length packet)) ∷ [])
+
+-- the lent buffer, with the packet in front where it is written
+unfoldable pub writeOut : Bool → List ℕ → List ℕ → List ℕ → List ℕ
+writeOut wrongValue packet name out = onDone (writeNumber wrongValue packet name out) (written packet out) out
+
+-- a Challenge written
+unfoldable pub challengeNumber : ℕ → List ℕ → List ℕ → List ℕ → ℕ
+challengeNumber identifier challenge name out =
+    writeNumber (wrong challengeLength challenge) (packetOf kinds.Challenge identifier challenge name) name out
+
+unfoldable pub challengeOut : ℕ → List ℕ → List ℕ → List ℕ → List ℕ
+challengeOut identifier challenge name out =
+    writeOut (wrong challengeLength challenge) (packetOf kinds.Challenge identifier challenge name) name out
+
+-- a Response written
+unfoldable pub responseNumber : ℕ → List ℕ → List ℕ → List ℕ → List ℕ → ℕ
+responseNumber identifier peer response name out =
+    writeNumber (wrong challengeLength peer || wrong responseLength response)
+    (packetOf kinds.Response identifier (responseValue peer response) name)
+    name
+    out
+
+unfoldable pub responseOut : ℕ → List ℕ → List ℕ → List ℕ → List ℕ → List ℕ
+responseOut identifier peer response name out =
+    writeOut (wrong challengeLength peer || wrong responseLength response)
+    (packetOf kinds.Response identifier (responseValue peer response) name)
+    name
+    out

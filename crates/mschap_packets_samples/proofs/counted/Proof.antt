@@ -1,0 +1,47 @@
+use mathlib.Core.Path.{_≡_}
+use Prim.Native.Nat.{_≤_, _-_}
+use lib.ListN.{length}
+use borrow.Author.Needs.{needs}
+use Rattle.mschap_packets_samples.proofs.counted.Statement.{statement}
+use Rattle.mschap_packets_samples.proofs.counted.Tie as tie
+
+abbrev Inv-loop : tie.InvT-loop
+Inv-loop octets₀ i₀ octets i = (i ≤ 257) × (length octets ≡ 257)
+
+abbrev μ-loop : tie.MeasureT-loop
+μ-loop octets₀ i₀ octets i = 257 - i
+
+loop-holds : tie.Need-loop-holds Inv-loop μ-loop
+loop-holds c = search needs
+
+cast-octets : tie.Need-cast-octets Inv-loop μ-loop
+cast-octets c = search needs
+
+array-write-octets : tie.Need-array-write-octets Inv-loop μ-loop
+array-write-octets c = search needs
+
+add-i : tie.Need-add-i Inv-loop μ-loop
+add-i c = search needs
+
+loop-less : tie.Need-loop-less Inv-loop μ-loop
+loop-less c = search needs
+
+loop-again : tie.Need-loop-again Inv-loop μ-loop
+loop-again c = search needs
+
+returns : tie.Need-returns Inv-loop μ-loop
+returns c = search needs
+
+pub counted-spec : {M : Type 1} → statement M
+counted-spec =
+    tie.close
+    (tie.spec
+    Inv-loop
+    μ-loop
+    loop-holds
+    cast-octets
+    array-write-octets
+    add-i
+    loop-less
+    loop-again
+    returns)

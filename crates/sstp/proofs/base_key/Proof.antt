@@ -1,0 +1,50 @@
+use mathlib.Core.Path.{_∙_}
+use borrow.Author.Needs.{needs}
+use Rattle.sstp.proofs.Laws.{send-wrong, receive-wrong, base-done}
+use Rattle.sstp.proofs.base_key.Statement.{statement}
+use Rattle.sstp.proofs.base_key.Tie as tie
+
+refused-requires : tie.Need-refused-requires
+refused-requires c κs = search needs
+
+returns : tie.Need-returns
+returns c = c .refused .ensures ∙ send-wrong _ _ _ (c .before .if1 .taken)
+
+refused-requires-2 : tie.Need-refused-requires-2
+refused-requires-2 c κs = search needs
+
+returns-2 : tie.Need-returns-2
+returns-2 c = c .refused2 .ensures ∙ receive-wrong _ _ _ (c .before .before .if1 .left) (c .before .if2 .taken)
+
+enum-told : tie.Need-enum-told
+enum-told c = search needs
+
+joined-requires : tie.Need-joined-requires
+joined-requires c κs = search needs
+
+enum-told-2 : tie.Need-enum-told-2
+enum-told-2 c = search needs
+
+joined-requires-2 : tie.Need-joined-requires-2
+joined-requires-2 c κs = search needs
+
+returns-3 : tie.Need-returns-3
+returns-3 c = base-done _ _ _ (c .before .enum-told .given .1) (c .before .before .before .before .if1 .left) (c .before .before .before .if2 .left) (c .joined .ensures)
+
+returns-4 : tie.Need-returns-4
+returns-4 c = base-done _ _ _ (c .before .enum-told2 .given .1) (c .before .before .before .before .if1 .left) (c .before .before .before .if2 .left) (c .joined2 .ensures)
+
+pub base-key-spec : {M : Type 1} → statement M
+base-key-spec =
+    tie.close
+    (tie.spec
+    refused-requires
+    returns
+    refused-requires-2
+    returns-2
+    enum-told
+    joined-requires
+    enum-told-2
+    joined-requires-2
+    returns-3
+    returns-4)
