@@ -1,8 +1,9 @@
 -- The numbers a call may answer (01, "Numbers a call may answer"), and how a call picks one.
-use mathlib.Core.Bool.{Bool, true, false}
+use mathlib.Core.Bool.{Bool, true, false, not}
 use mathlib.Core.List.{List, [], _∷_}
 use Prim.Native.Nat.{ℕ, zero, suc}
-use lib.Dec.{ltb}
+use lib.Dec.{eqb, ltb}
+use lib.ListN.{length}
 
 abbrev pub done : ℕ
 done = 0
@@ -42,6 +43,10 @@ pick false a b = b
 -- a length that lies outside its limits
 abbrev pub outside : ℕ → ℕ → ℕ → Bool
 outside low high n = pick (ltb n low) true (ltb high n)
+
+-- an input that has not the one length named
+abbrev pub wrong : ℕ → List ℕ → Bool
+wrong n input = not (eqb (length input) n)
 
 -- "Each call gives the first that applies": rows of a number and whether it applies, in the paper's order; 0 where none does
 abbrev pub firstOf : List (ℕ × Bool) → ℕ

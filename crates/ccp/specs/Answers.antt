@@ -4,7 +4,7 @@ use mathlib.Core.List.{List, [], _∷_}
 use Prim.Native.Nat.{ℕ}
 use lib.Dec.{eqb, ltb}
 use lib.ListN.{length, getD}
-use Rattle.answer.specs.Answer.{done, shape, room, strength, pick, firstOf, onDone}
+use Rattle.answer.specs.Answer.{done, shape, room, strength, pick, firstOf, onDone, wrong}
 use Rattle.octets.specs.Octets.{written, wordBE}
 use Rattle.ccp.specs.declared.Mode.{Mode}
 use Rattle.ccp.specs.declared.Mode.the-variants.{Stateless}
@@ -19,7 +19,7 @@ use Rattle.ccp.specs.Option.{optionType, optionLength, modeOf, strengths
 unfoldable pub readNumber : List ℕ → ℕ
 readNumber option =
     firstOf
-    ((shape, not (eqb (length option) optionLength))
+    ((shape, wrong optionLength option)
     ∷ (shape, not (eqb (getD option 0 0) optionType))
     ∷ (shape, not (eqb (getD option 1 0) optionLength))
     ∷ [])

@@ -1,12 +1,10 @@
 -- DES as FIPS 46-3 has it ("Enciphering", "The Cipher Function f" and, for the key schedule, Appendix 1): one block of 64 bits enciphered.
 -- A block of bits is the number that they are in base 2. The standard numbers the bits of a block from left to right, from 1.
-use mathlib.Core.Bool.{not}
 use mathlib.Core.List.{List, [], _∷_, map}
 use Prim.Native.Nat.{ℕ, zero, suc, _+_, _-_, _*_, _/_, _%_, _^_}
 use lib.Bits.{bitXor}
-use lib.Dec.{eqb}
-use lib.ListN.{length, getD, replicate}
-use Rattle.answer.specs.Answer.{size, firstOf, onDone}
+use lib.ListN.{getD, replicate}
+use Rattle.answer.specs.Answer.{size, firstOf, onDone, wrong}
 use Rattle.octets.specs.Octets.{bigEndian}
 use Rattle.des.specs.declared.Block.{Block}
 use Rattle.des.specs.declared.Halves.{Halves}
@@ -92,7 +90,7 @@ blockOctets = 8
 
 -- the number that the call answers
 abbrev pub encryptNumber : List ℕ → List ℕ → ℕ
-encryptNumber key block = firstOf ((size, not (eqb (length key) keyOctets)) ∷ (size, not (eqb (length block) blockOctets)) ∷ [])
+encryptNumber key block = firstOf ((size, wrong keyOctets key) ∷ (size, wrong blockOctets block) ∷ [])
 
 -- the answer to a key and a block of any lengths
 unfoldable pub encryptAnswer : List ℕ → List ℕ → Block

@@ -5,7 +5,7 @@ use mathlib.Core.List.{List, [], _∷_, _++_}
 use Prim.Native.Nat.{ℕ, _+_, _*_, _-_, _/_, _%_}
 use lib.Dec.{eqb, ltb}
 use lib.ListN.{length, take, drop, getD, replicate}
-use Rattle.answer.specs.Answer.{done, shape, room, size, protocol, flags, repeat, notRecord, pick, outside, firstOf, onDone}
+use Rattle.answer.specs.Answer.{done, shape, room, size, protocol, flags, repeat, notRecord, pick, outside, wrong, firstOf, onDone}
 use Rattle.octets.specs.Octets.{bigEndian, written}
 use Rattle.mppe_keys.specs.declared.Strength.{Strength}
 use Rattle.mppe_keys.specs.Keys.{keyLength, headOf, initialKey, rc4, keyChange, changes, placed}
@@ -70,7 +70,7 @@ renewed l session count = record { strength = l .strength; start = l .start; ses
 
 -- "Start key: 16 at 128 bits, else 8"; "New link: 3"
 abbrev pub newLinkCode : Strength → List ℕ → ℕ
-newLinkCode s start = firstOf ((size, not (eqb (length start) (keyLength s))) ∷ [])
+newLinkCode s start = firstOf ((size, wrong (keyLength s) start) ∷ [])
 
 -- "A new link has count 4,095 (house), so the first packet carries 0"; "a refused new link has the strength asked for and all else 0"
 unfoldable pub newLink : Strength → List ℕ → NewLink

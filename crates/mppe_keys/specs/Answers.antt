@@ -1,11 +1,9 @@
 -- What the calls answer (01, "Numbers a call may answer" and "Lengths").
 use mathlib.Core.Path.{_≡_}
-use mathlib.Core.Bool.{Bool, not}
 use mathlib.Core.List.{List, [], _∷_, _++_}
 use Prim.Native.Nat.{ℕ}
-use lib.Dec.{eqb}
 use lib.ListN.{length, take, replicate}
-use Rattle.answer.specs.Answer.{done, size, firstOf, onDone}
+use Rattle.answer.specs.Answer.{done, size, firstOf, onDone, wrong}
 use Rattle.mppe_keys.specs.declared.Strength.{Strength}
 use Rattle.mppe_keys.specs.declared.Role.{Role}
 use Rattle.mppe_keys.specs.declared.Direction.{Direction}
@@ -19,10 +17,6 @@ refusal = record { answer = size; octets = replicate 16 0 }
 -- what is answered: the key in its 16 places, or the refusal
 unfoldable pub keyAnswer : ℕ → List ℕ → Key
 keyAnswer code key = onDone code (record { answer = done; octets = placed key }) refusal
-
--- an input that has not the one length named
-abbrev pub wrong : ℕ → List ℕ → Bool
-wrong n input = not (eqb (length input) n)
 
 -- the number for one input of n octets
 unfoldable pub oneCode : ℕ → List ℕ → ℕ

@@ -12,7 +12,7 @@ use lib.Dec.{eqb, ltb, eqb→eq}
 use lib.ListN.{length, take, drop, replicate, getD, length-append, length-drop, length-replicate, drop-of-length-le}
 use lib.Seq.{drop-cons, drop-drop, take-all, take-at, take-suc, take-append-seam, drop-append-add, length-take-le}
 use borrow.Author.Tests.{ltb-false, lt-ltb, le-ltb, eq-eqb, ne-eqb}
-use Rattle.answer.specs.Answer.{done, size, domain, pick, firstOf, onDone}
+use Rattle.answer.specs.Answer.{done, size, domain, pick, firstOf, onDone, wrong}
 use Rattle.octets.specs.Octets.{written, writtenAt, longestText}
 use Rattle.octets.proofs.Below.{below}
 use Rattle.octets.proofs.Laws.{copy-fits, append-more, drop-zeros}
@@ -34,7 +34,7 @@ use Rattle.mschap.specs.declared.HashedName.{HashedName}
 use Rattle.mschap.specs.Lengths.{longestPassword, longestName}
 use Rattle.mschap.specs.Name.{backslash, holds, nameRows, hashedName}
 use Rattle.mschap.specs.Mschap.{passwordHash, hashHash, challengeHash, zPasswordHash, challengeResponse, ntResponse, magic1, magic2, hexDigit, hexDigits, encoded, signature, authenticatorString, equal}
-use Rattle.mschap.specs.Answers.{wrong, passwordRows, responseRows, stringRows, hashAnswer, challengeAnswer, responseAnswer, stringAnswer, checkAnswer, nameAnswer, ntResponseAnswer, authenticatorStringAnswer, checkResponseAnswer, checkAuthenticatorAnswer}
+use Rattle.mschap.specs.Answers.{passwordRows, responseRows, stringRows, hashAnswer, challengeAnswer, responseAnswer, stringAnswer, checkAnswer, nameAnswer, ntResponseAnswer, authenticatorStringAnswer, checkResponseAnswer, checkAuthenticatorAnswer}
 use Rattle.mschap.specs.Laws.{name-fits, hexDigits-length}
 
 -- an octet looked for: it stands here, not here, nowhere

@@ -4,7 +4,7 @@ use mathlib.Core.List.{List, [], _∷_, _++_}
 use Prim.Native.Nat.{ℕ, _-_, _%_}
 use lib.Dec.{eqb, ltb}
 use lib.ListN.{length, replicate}
-use Rattle.answer.specs.Answer.{size, firstOf, onDone}
+use Rattle.answer.specs.Answer.{size, firstOf, onDone, wrong}
 use Rattle.mschap.specs.declared.Hash.{Hash}
 use Rattle.mschap.specs.declared.ChallengeHash.{ChallengeHash}
 use Rattle.mschap.specs.declared.NtResponse.{NtResponse}
@@ -14,10 +14,6 @@ use Rattle.mschap.specs.declared.HashedName.{HashedName}
 use Rattle.mschap.specs.Lengths.{longestPassword, longestName, challengeLength, responseLength, hashLength, challengeHashLength, stringLength}
 use Rattle.mschap.specs.Name.{nameRows, hashedName}
 use Rattle.mschap.specs.Mschap.{passwordHash, hashHash, challengeHash, challengeResponse, ntResponse, authenticatorString, equal}
-
--- an input that has not the one length named
-abbrev pub wrong : ℕ → List ℕ → Bool
-wrong n input = not (eqb (length input) n)
 
 -- "Password: 0 to 512 octets, even"
 abbrev pub passwordRows : List ℕ → List (ℕ × Bool)

@@ -8,7 +8,7 @@ use lib.Dec.{eqb}
 use lib.ListN.{length, take, drop, length-append}
 use lib.Seq.{length-take-le}
 use borrow.Author.Tests.{le-ltb, eq-eqb, eqb-true}
-use Rattle.answer.specs.Answer.{done, size, firstOf}
+use Rattle.answer.specs.Answer.{done, size, firstOf, wrong}
 use Rattle.md4.specs.Md4.{md4}
 use Rattle.sha1.specs.Sha1.{sha1}
 use Rattle.des.specs.Des.{encrypted}
@@ -20,7 +20,7 @@ use Rattle.mschap.specs.declared.Checked.{Checked}
 use Rattle.mschap.specs.Lengths.{longestPassword, longestName, challengeLength, responseLength, hashLength, challengeHashLength, stringLength}
 use Rattle.mschap.specs.Name.{backslash, holds, nameRows, hashedName}
 use Rattle.mschap.specs.Mschap.{passwordHash, hashHash, challengeHash, zPasswordHash, challengeResponse, ntResponse, hexDigits, encoded, signature, authenticatorString, equal}
-use Rattle.mschap.specs.Answers.{wrong, passwordRows, challengeRows, responseRows, stringRows, hashAnswer, challengeAnswer, responseAnswer, stringAnswer, checkAnswer, passwordHashAnswer, hashHashAnswer, challengeHashAnswer, challengeResponseAnswer, ntResponseAnswer, authenticatorStringAnswer, checkResponseAnswer, checkAuthenticatorAnswer}
+use Rattle.mschap.specs.Answers.{passwordRows, challengeRows, responseRows, stringRows, hashAnswer, challengeAnswer, responseAnswer, stringAnswer, checkAnswer, passwordHashAnswer, hashHashAnswer, challengeHashAnswer, challengeResponseAnswer, ntResponseAnswer, authenticatorStringAnswer, checkResponseAnswer, checkAuthenticatorAnswer}
 
 -- the lengths of all results
 pub passwordHash-length : (password : List ℕ) → length (passwordHash password) ≡ hashLength

@@ -9,12 +9,12 @@ use lib.Dec.{ltb}
 use lib.ListN.{length, drop, getD, replicate, length-append}
 use lib.Seq.{take-at, drop-at, drop-drop}
 use borrow.Author.Tests.{ltb-false, eqb-true, not-false, le-ltb, eq-eqb}
-use Rattle.answer.specs.Answer.{done, size, pick}
+use Rattle.answer.specs.Answer.{done, size, pick, wrong}
 use Rattle.mschap_packets.specs.declared.Kind.{Kind}
 use Rattle.mschap_packets.specs.declared.Kind.the-variants as kinds
 use Rattle.mschap_packets.specs.declared.Challenge.{Challenge}
 use Rattle.mschap_packets.specs.declared.Response.{Response}
-use Rattle.mschap_packets.specs.Packet.{challengeLength, responseLength, longestName, codeOf, valueSize, leastLength, header, packetOf, responseValue, part, lengthField, reserved, anySet, readNumber, challengeRead, responseRead, nameOf, wrong, writeNumber, writeOut, challengeNumber, challengeOut, responseNumber, responseOut}
+use Rattle.mschap_packets.specs.Packet.{challengeLength, responseLength, longestName, codeOf, valueSize, leastLength, header, packetOf, responseValue, part, lengthField, reserved, anySet, readNumber, challengeRead, responseRead, nameOf, writeNumber, writeOut, challengeNumber, challengeOut, responseNumber, responseOut}
 
 -- a packet of right shape: its name is too long, or not
 pub read-name : {least code size n : ℕ} {set t : Bool} (kind : Kind) (packet : List ℕ) → least ≡ leastLength kind → least ≤ length packet

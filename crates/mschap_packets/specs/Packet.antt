@@ -4,7 +4,7 @@ use mathlib.Core.List.{List, [], _∷_, _++_}
 use Prim.Native.Nat.{ℕ, _+_, _*_, _-_}
 use lib.Dec.{eqb, ltb}
 use lib.ListN.{length, take, drop, getD, replicate}
-use Rattle.answer.specs.Answer.{done, shape, room, size, firstOf, onDone}
+use Rattle.answer.specs.Answer.{done, shape, room, size, firstOf, onDone, wrong}
 use Rattle.octets.specs.Octets.{bigEndian, written}
 use Rattle.mschap_packets.specs.declared.Kind.{Kind}
 use Rattle.mschap_packets.specs.declared.Kind.the-variants as kinds
@@ -107,10 +107,6 @@ responseRead packet =
 unfoldable pub nameOf : Kind → List ℕ → List ℕ
 nameOf kind packet =
     onDone (readNumber kind packet) (part (leastLength kind) (lengthField packet - leastLength kind) packet) []
-
--- an input that has not the one length named
-abbrev pub wrong : ℕ → List ℕ → Bool
-wrong n input = not (eqb (length input) n)
 
 -- the number for a packet to be written, with or without a wrong length in its value: "Packet writers: 3, 2"
 unfoldable pub writeNumber : Bool → List ℕ → List ℕ → List ℕ → ℕ
