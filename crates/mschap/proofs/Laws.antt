@@ -104,8 +104,8 @@ joined a b c t e₁ e₂ e₃ h =
     let g₁ = grown [] t a 0 refl e₁ refl (omega arith) in
     let r₁ : length (drop (length a) t) ≡ length t - length a = length-drop (length a) t in
     let g₂ = grown a (drop (length a) t) b (length a) g₁ e₂ refl (omega arith) in
-    let r₂ : length (drop (length b) (drop (length a) t)) ≡ length t - length a - length b = length-drop (length b) (drop (length a) t)
-    ∙ rw r₁ in
+    let r₂ : length (drop (length b) (drop (length a) t)) ≡ length t - length a - length b =
+    length-drop (length b) (drop (length a) t) ∙ rw r₁ in
     let front : length (a ++ b) ≡ length a + length b = length-append a b in
     let g₃ = grown (a ++ b) (drop (length b) (drop (length a) t)) c (length a + length b) g₂ e₃ front (omega arith) in
     let all : length (a ++ b ++ c) ≡ length a + (length b + length c) = simp length-append (omega arith) in
@@ -115,9 +115,8 @@ joined a b c t e₁ e₂ e₃ h =
 pub md4-octets : {d : Md4Digest} (text : List ℕ) → d ≡ md4Answer text → length text ≤ longestText → d .octets ≡ md4 text
 md4-octets text e h = rw (e, md4-done text h)
 
-pub sha1-octets : {d : Sha1Digest} {t : List ℕ} (a b c z : List ℕ) → t ≡ written (a ++ b ++ c) z → d ≡ sha1Answer
-    (take (length a + length b + length c) t)
-    → length a + length b + length c ≤ 288 → d .octets ≡ sha1 (a ++ b ++ c)
+pub sha1-octets : {d : Sha1Digest} {t : List ℕ} (a b c z : List ℕ) → t ≡ written (a ++ b ++ c) z
+    → d ≡ sha1Answer (take (length a + length b + length c) t) → length a + length b + length c ≤ 288 → d .octets ≡ sha1 (a ++ b ++ c)
 sha1-octets a b c z et e h =
     let text : List ℕ = a ++ b ++ c in
     let all : length text ≡ length a + length b + length c = simp length-append (omega arith) in
@@ -132,8 +131,7 @@ pub front-copied : {r : List ℕ} (n : ℕ) (l : List ℕ) → r ≡ written (ta
 front-copied n l e h =
     e ∙ rw (
       length-take-le n l h,
-      drop-of-length-le {A = ℕ} (replicate n 0) {i = n}
-          (rw (length-replicate {A = ℕ} n 0) (omega arith)),
+      drop-of-length-le {A = ℕ} (replicate n 0) {i = n} (rw (length-replicate {A = ℕ} n 0) (omega arith)),
       append-nil,
     )
 
@@ -182,9 +180,8 @@ pub encoded-more : {s s′ q : List ℕ} (d : List ℕ) (i : ℕ) → s ≡ enco
 unfolding encoded
 encoded-more {s} {s′} {q} d i e eq e′ h h′ =
     let two : length q ≡ 2 = ap length eq in
-    let place : 2 * i + 2 ≡ length (encoded (take i d)) =
-    sym (ap (λ (n : ℕ). suc (suc n)) (hexDigits-length (take i d) ∙ ap (λ (n : ℕ). 2 * n) (length-take-le i d (omega arith)))
-    ∙ omega arith) in
+    let digits : length (hexDigits (take i d)) ≡ 2 * i = hexDigits-length (take i d) ∙ ap (λ (n : ℕ). 2 * n) (length-take-le i d (omega arith)) in
+    let place : 2 * i + 2 ≡ length (encoded (take i d)) = rw digits (omega arith) in
     let left : 40 - 2 * i - 2 ≡ 40 - 2 * (i + 1) = omega arith in
     append-more (encoded (take i d)) q (2 * i + 2) (40 - 2 * i) e e′ place (omega arith)
     ∙ rw (two, left, eq, add-one, take-suc d i 0 h, digits-snoc (take i d) (getD d i 0))
@@ -213,8 +210,8 @@ behind n input rest h e = e ∙ rw (eq-eqb (length input) n h)
 pub password-long : (password : List ℕ) → longestPassword < length password → size ≡ firstOf (passwordRows password)
 password-long password h = rw (lt-ltb longestPassword (length password) h)
 
-pub password-odd : (password : List ℕ) → length password ≤ longestPassword → (length password % 2 ≡ 0 → ⊥) → size ≡ firstOf
-    (passwordRows password)
+pub password-odd : (password : List ℕ) → length password ≤ longestPassword → (length password % 2 ≡ 0 → ⊥)
+    → size ≡ firstOf (passwordRows password)
 password-odd password h e = rw (le-ltb longestPassword (length password) h, ne-eqb (length password % 2) 0 e)
 
 -- the front of a list is as long as asked
@@ -226,75 +223,61 @@ not-done : {A : Type 0} (number : ℕ) (result refused : A) → (number ≡ 0 �
 not-done zero result refused h = absurd (h refl)
 not-done (suc n) result refused h = refl
 
--- the ways out of the calls, a refusal and a result, and what a caller learns from an answer
-pub hash-refused : {n : ℕ} (number : ℕ) (hash : List ℕ) → n ≡ number → (n ≡ 0 → ⊥)
-    → _≡_ {A = Hash} (record { answer = n; octets = replicate 16 0 }) (hashAnswer number hash)
+-- an answer of a number and a result
+abbrev pub hash-of : ℕ → List ℕ → Hash
+hash-of n o = record { answer = n; octets = o }
+
+abbrev pub challenge-of : ℕ → List ℕ → ChallengeHash
+challenge-of n o = record { answer = n; octets = o }
+
+abbrev pub response-of : ℕ → List ℕ → NtResponse
+response-of n o = record { answer = n; octets = o }
+
+abbrev pub string-of : ℕ → List ℕ → AuthenticatorString
+string-of n o = record { answer = n; octets = o }
+
+abbrev pub check-of : ℕ → Bool → Checked
+check-of n t = record { answer = n; yes = t }
+
+-- the ways out of a call: a refusal, and a result
+pub refused : {A B : Type 0} {n : ℕ} (make : ℕ → B → A) (number : ℕ) (result zeros : B) → n ≡ number → (n ≡ 0 → ⊥)
+    → make n zeros ≡ make number (onDone number result zeros)
+refused make number result zeros e h = rw (e, not-done number result zeros (λ z. h (e ∙ z)))
+
+pub answered : {A B : Type 0} {o : B} (make : ℕ → B → A) (number : ℕ) (result zeros : B) → number ≡ 0 → o ≡ result
+    → make 0 o ≡ make number (onDone number result zeros)
+answered make number result zeros e eo = rw (e, eo)
+
+-- what a caller learns from an answer
+told : {A B : Type 0} {x : A} (answer-of : A → ℕ) (result-of : A → B) (y : A) (number : ℕ) (result zeros : B) → x ≡ y → answer-of y ≡ number
+    → result-of y ≡ onDone number result zeros → (answer-of x ≡ number) × (answer-of x ≡ 0 → result-of x ≡ result)
+told answer-of result-of y number result zeros e en er =
+    let n = ap answer-of e ∙ en in
+    (n, λ z. ap result-of e ∙ er ∙ rw (sym n ∙ z))
+
+pub hash-told : {x : Hash} (number : ℕ) (hash : List ℕ) → x ≡ hashAnswer number hash
+    → (x .answer ≡ number) × (x .answer ≡ 0 → x .octets ≡ hash)
 unfolding hashAnswer
-hash-refused number hash e h = rw (e, not-done number hash (replicate 16 0) (λ z. h (e ∙ z)))
+hash-told number hash e =
+    told (λ (x : Hash). x .answer) (λ (x : Hash). x .octets) (hashAnswer number hash) number hash (replicate 16 0) e refl refl
 
-pub hash-done : {o : List ℕ} (number : ℕ) (hash : List ℕ) → number ≡ 0 → o ≡ hash
-    → _≡_ {A = Hash} (record { answer = 0; octets = o }) (hashAnswer number hash)
-unfolding hashAnswer
-hash-done number hash e eo = rw (e, eo)
-
-pub hash-told : {x : Hash} (number : ℕ) (hash : List ℕ) → x ≡ hashAnswer number hash → (x .answer ≡ number) ×
-    (x .answer ≡ 0 → x .octets ≡ hash)
-unfolding hashAnswer
-hash-told number hash e = (ap (λ (x : Hash). x .answer) e, λ z. rw (e, sym (ap (λ (x : Hash). x .answer) e) ∙ z))
-
-pub challenge-refused : {n : ℕ} (number : ℕ) (hash : List ℕ) → n ≡ number → (n ≡ 0 → ⊥)
-    → _≡_ {A = ChallengeHash} (record { answer = n; octets = replicate 8 0 }) (challengeAnswer number hash)
+pub challenge-told : {x : ChallengeHash} (number : ℕ) (hash : List ℕ) → x ≡ challengeAnswer number hash
+    → (x .answer ≡ number) × (x .answer ≡ 0 → x .octets ≡ hash)
 unfolding challengeAnswer
-challenge-refused number hash e h = rw (e, not-done number hash (replicate 8 0) (λ z. h (e ∙ z)))
+challenge-told number hash e =
+    told (λ (x : ChallengeHash). x .answer) (λ (x : ChallengeHash). x .octets) (challengeAnswer number hash) number hash (replicate 8 0) e refl refl
 
-pub challenge-done : {o : List ℕ} (number : ℕ) (hash : List ℕ) → number ≡ 0 → o ≡ hash
-    → _≡_ {A = ChallengeHash} (record { answer = 0; octets = o }) (challengeAnswer number hash)
-unfolding challengeAnswer
-challenge-done number hash e eo = rw (e, eo)
-
-pub challenge-told : {x : ChallengeHash} (number : ℕ) (hash : List ℕ) → x ≡ challengeAnswer number hash → (x .answer ≡ number) ×
-    (x .answer ≡ 0 → x .octets ≡ hash)
-unfolding challengeAnswer
-challenge-told number hash e = (ap (λ (x : ChallengeHash). x .answer) e, λ z. rw (e, sym (ap (λ (x : ChallengeHash). x .answer) e) ∙ z))
-
-pub response-refused : {n : ℕ} (number : ℕ) (response : List ℕ) → n ≡ number → (n ≡ 0 → ⊥)
-    → _≡_ {A = NtResponse} (record { answer = n; octets = replicate 24 0 }) (responseAnswer number response)
+pub response-told : {x : NtResponse} (number : ℕ) (response : List ℕ) → x ≡ responseAnswer number response
+    → (x .answer ≡ number) × (x .answer ≡ 0 → x .octets ≡ response)
 unfolding responseAnswer
-response-refused number response e h = rw (e, not-done number response (replicate 24 0) (λ z. h (e ∙ z)))
+response-told number response e =
+    told (λ (x : NtResponse). x .answer) (λ (x : NtResponse). x .octets) (responseAnswer number response) number response (replicate 24 0) e refl refl
 
-pub response-done : {o : List ℕ} (number : ℕ) (response : List ℕ) → number ≡ 0 → o ≡ response
-    → _≡_ {A = NtResponse} (record { answer = 0; octets = o }) (responseAnswer number response)
-unfolding responseAnswer
-response-done number response e eo = rw (e, eo)
-
-pub response-told : {x : NtResponse} (number : ℕ) (response : List ℕ) → x ≡ responseAnswer number response → (x .answer ≡ number) ×
-    (x .answer ≡ 0 → x .octets ≡ response)
-unfolding responseAnswer
-response-told number response e = (ap (λ (x : NtResponse). x .answer) e, λ z. rw (e, sym (ap (λ (x : NtResponse). x .answer) e) ∙ z))
-
-pub string-refused : {n : ℕ} (number : ℕ) (string : List ℕ) → n ≡ number → (n ≡ 0 → ⊥)
-    → _≡_ {A = AuthenticatorString} (record { answer = n; octets = replicate 42 0 }) (stringAnswer number string)
+pub string-told : {x : AuthenticatorString} (number : ℕ) (string : List ℕ) → x ≡ stringAnswer number string
+    → (x .answer ≡ number) × (x .answer ≡ 0 → x .octets ≡ string)
 unfolding stringAnswer
-string-refused number string e h = rw (e, not-done number string (replicate 42 0) (λ z. h (e ∙ z)))
-
-pub string-done : {o : List ℕ} (number : ℕ) (string : List ℕ) → number ≡ 0 → o ≡ string
-    → _≡_ {A = AuthenticatorString} (record { answer = 0; octets = o }) (stringAnswer number string)
-unfolding stringAnswer
-string-done number string e eo = rw (e, eo)
-
-pub string-told : {x : AuthenticatorString} (number : ℕ) (string : List ℕ) → x ≡ stringAnswer number string → (x .answer ≡ number) ×
-    (x .answer ≡ 0 → x .octets ≡ string)
-unfolding stringAnswer
-string-told number string e = (
-  ap (λ (x : AuthenticatorString). x .answer) e,
-  λ z. rw
-      (e, sym (ap (λ (x : AuthenticatorString). x .answer) e) ∙ z),
-)
-
-pub check-refused : {n : ℕ} (number : ℕ) (same : Bool) → n ≡ number → (n ≡ 0 → ⊥)
-    → _≡_ {A = Checked} (record { answer = n; yes = false }) (checkAnswer number same)
-unfolding checkAnswer
-check-refused number same e h = rw (e, not-done number same false (λ z. h (e ∙ z)))
+string-told number string e =
+    told (λ (x : AuthenticatorString). x .answer) (λ (x : AuthenticatorString). x .octets) (stringAnswer number string) number string (replicate 42 0) e refl refl
 
 -- the ways out of a name
 pub name-long : (name : List ℕ) → longestName < length name
@@ -318,8 +301,8 @@ pub name-told : {u : HashedName} (name : List ℕ) → u ≡ nameAnswer name →
 unfolding nameAnswer
 name-told name e = ap (λ (u : HashedName). u .answer) e
 
-name-part : {u : HashedName} (name : List ℕ) → u ≡ nameAnswer name → u .answer ≡ 0 → (u .len ≡ length (hashedName name)) ×
-    (take (u .len) (u .octets) ≡ hashedName name)
+name-part : {u : HashedName} (name : List ℕ) → u ≡ nameAnswer name → u .answer ≡ 0
+    → (u .len ≡ length (hashedName name)) × (take (u .len) (u .octets) ≡ hashedName name)
 unfolding nameAnswer
 name-part name e z =
     let number : firstOf (nameRows name) ≡ 0 = sym (name-told name e) ∙ z in
@@ -343,8 +326,7 @@ challenge-hashed peer authenticator name e z ed eo = rw (eo, ed, name-part name 
 
 -- a number behind the rows of a password, and that of a password
 pub behind-password : {n m : ℕ} (password : List ℕ) (rows : List (ℕ × Bool)) → m ≡ firstOf (passwordRows password) → m ≡ 0
-    → n ≡ firstOf rows
-    → n ≡ firstOf (passwordRows password ++ rows)
+    → n ≡ firstOf rows → n ≡ firstOf (passwordRows password ++ rows)
 behind-password {n} password rows em z e = e ∙ go (ltb longestPassword (length password)) (eqb (length password % 2) 0) (sym em ∙ z)
   where
     go : (t u : Bool) → firstOf ((size, t) ∷ (size, not u) ∷ []) ≡ 0 → firstOf rows ≡ firstOf ((size, t) ∷ (size, not u) ∷ rows)
@@ -377,8 +359,7 @@ string-made password response peer authenticator name eh ec eo = rw (eo, eh, ec)
 
 -- what is received, held against the result
 checked : {t : Bool} {own : List ℕ} (n number : ℕ) (result received : List ℕ) → number ≡ 0 → own ≡ result → length own ≡ n
-    → length received ≡ n
-    → t ≡ equal (take n own) (take n received)
+    → length received ≡ n → t ≡ equal (take n own) (take n received)
     → _≡_ {A = Checked} (record { answer = 0; yes = t }) (checkAnswer (pick (wrong n received) size number) (equal result received))
 unfolding checkAnswer
 checked {t} {own} n number result received z e ho hr et =

@@ -85,17 +85,15 @@ password-fits password rows h e = rw (le-ltb longestPassword (length password) h
 pub name-fits : (name : List ℕ) → length name ≤ longestName → holds backslash name ≡ false → firstOf (nameRows name) ≡ done
 name-fits name h e = rw (le-ltb longestName (length name) h, e)
 
-pub challenge-fits : (peer authenticator name : List ℕ) → length peer ≡ challengeLength → length authenticator ≡ challengeLength → firstOf
-    (nameRows name) ≡ done
-    → firstOf (challengeRows peer authenticator name) ≡ done
+pub challenge-fits : (peer authenticator name : List ℕ) → length peer ≡ challengeLength → length authenticator ≡ challengeLength
+    → firstOf (nameRows name) ≡ done → firstOf (challengeRows peer authenticator name) ≡ done
 challenge-fits peer authenticator name hp ha hn =
     row-right challengeLength peer ((size, wrong challengeLength authenticator) ∷ nameRows name) hp
     ∙ row-right challengeLength authenticator (nameRows name) ha ∙ hn
 
 pub response-fits : (authenticator peer name password : List ℕ) → length password ≤ longestPassword → length password % 2 ≡ 0
-    → length peer ≡ challengeLength
-    → length authenticator ≡ challengeLength → firstOf (nameRows name) ≡ done → firstOf
-    (responseRows authenticator peer name password) ≡ done
+    → length peer ≡ challengeLength → length authenticator ≡ challengeLength → firstOf (nameRows name) ≡ done
+    → firstOf (responseRows authenticator peer name password) ≡ done
 response-fits authenticator peer name password h e hp ha hn =
     password-fits password (challengeRows peer authenticator name) h e ∙ challenge-fits peer authenticator name hp ha hn
 
@@ -105,14 +103,15 @@ pub passwordHash-done : (password : List ℕ) → length password ≤ longestPas
 unfolding passwordHashAnswer hashAnswer
 passwordHash-done password h e = rw (password-fits password [] h e)
 
-pub hashHash-done : (hash : List ℕ) → length hash ≡ hashLength → _≡_ {A = Hash} (hashHashAnswer hash)
-    (record { answer = done; octets = hashHash hash })
+pub hashHash-done : (hash : List ℕ) → length hash ≡ hashLength
+    → _≡_ {A = Hash} (hashHashAnswer hash) (record { answer = done; octets = hashHash hash })
 unfolding hashHashAnswer hashAnswer
 hashHash-done hash h = rw (row-right hashLength hash [] h)
 
 pub challengeHash-done : (peer authenticator name : List ℕ) → length peer ≡ challengeLength → length authenticator ≡ challengeLength
     → firstOf (nameRows name) ≡ done
-    → _≡_ {A = ChallengeHash} (challengeHashAnswer peer authenticator name)
+    → _≡_ {A = ChallengeHash}
+    (challengeHashAnswer peer authenticator name)
     (record { answer = done; octets = challengeHash peer authenticator name })
 unfolding challengeHashAnswer challengeAnswer
 challengeHash-done peer authenticator name hp ha hn = rw (challenge-fits peer authenticator name hp ha hn)
@@ -120,14 +119,12 @@ challengeHash-done peer authenticator name hp ha hn = rw (challenge-fits peer au
 pub challengeResponse-done : (challenge hash : List ℕ) → length challenge ≡ challengeHashLength → length hash ≡ hashLength
     → _≡_ {A = NtResponse} (challengeResponseAnswer challenge hash) (record { answer = done; octets = challengeResponse challenge hash })
 unfolding challengeResponseAnswer responseAnswer
-challengeResponse-done challenge hash hc hh = rw (
-  row-right challengeHashLength challenge
-      ((size, wrong hashLength hash) ∷ []) hc,
-  row-right hashLength hash [] hh,
-)
+challengeResponse-done challenge hash hc hh =
+    rw (row-right challengeHashLength challenge ((size, wrong hashLength hash) ∷ []) hc, row-right hashLength hash [] hh)
 
 pub ntResponse-done : (authenticator peer name password : List ℕ) → firstOf (responseRows authenticator peer name password) ≡ done
-    → _≡_ {A = NtResponse} (ntResponseAnswer authenticator peer name password)
+    → _≡_ {A = NtResponse}
+    (ntResponseAnswer authenticator peer name password)
     (record { answer = done; octets = ntResponse authenticator peer name password })
 unfolding ntResponseAnswer responseAnswer
 ntResponse-done authenticator peer name password h = rw h
@@ -138,8 +135,8 @@ pub authenticatorString-done : (password response peer authenticator name : List
     (authenticatorStringAnswer password response peer authenticator name)
     (record { answer = done; octets = authenticatorString password response peer authenticator name })
 unfolding authenticatorStringAnswer stringAnswer
-authenticatorString-done password response peer authenticator name hr h = rw
-    (row-right responseLength response (responseRows authenticator peer name password) hr, h)
+authenticatorString-done password response peer authenticator name hr h =
+    rw (row-right responseLength response (responseRows authenticator peer name password) hr, h)
 
 -- a comparison is a yes for the same octets, and for no others
 pub equal-same : (a : List ℕ) → equal a a ≡ true
@@ -183,12 +180,12 @@ checkResponse-yes authenticator peer name password h =
 pub checkResponse-only : (authenticator peer name password received : List ℕ)
     → checkResponseAnswer authenticator peer name password received .yes ≡ true → received ≡ ntResponse authenticator peer name password
 unfolding checkResponseAnswer
-checkResponse-only authenticator peer name password received h = sym
-    (equal-true (ntResponse authenticator peer name password) received (check-yes _ _ h .1))
+checkResponse-only authenticator peer name password received h =
+    sym (equal-true (ntResponse authenticator peer name password) received (check-yes _ _ h .1))
 
 -- so does the check of a string
-pub checkAuthenticator-yes : (password response peer authenticator name : List ℕ) → firstOf
-    (stringRows password response peer authenticator name) ≡ done
+pub checkAuthenticator-yes : (password response peer authenticator name : List ℕ)
+    → firstOf (stringRows password response peer authenticator name) ≡ done
     → _≡_ {A = Checked}
     (checkAuthenticatorAnswer password response peer authenticator name (authenticatorString password response peer authenticator name))
     (record { answer = done; yes = true })

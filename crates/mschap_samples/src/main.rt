@@ -4,9 +4,10 @@ use mschap::Checked;
 use mschap::Hash;
 use mschap::NtResponse;
 
-// The lengths of names, and of passwords.
+// The lengths of names.
 const NAMES: [usize; 5] = [0, 1, 255, 256, 257];
 
+// The lengths of passwords.
 const PASSWORDS: [usize; 8] = [0, 1, 2, 510, 511, 512, 513, 514];
 
 // All cases, in the order of tests/mschap.c; the challenges are those of section 9.2.

@@ -1,7 +1,7 @@
 use mathlib.Core.Path.{sym, _∙_}
 use borrow.Author.Needs.{needs}
-use Rattle.mschap.specs.Answers.{challengeRows, passwordHashAnswer, challengeHashAnswer, authenticatorStringAnswer}
-use Rattle.mschap.proofs.Laws.{not-size, row-wrong, behind, by-password, behind-password, hash-told, challenge-told, string-made, string-refused, string-done}
+use Rattle.mschap.specs.Answers.{stringAnswer, challengeRows, passwordHashAnswer, challengeHashAnswer, authenticatorStringAnswer}
+use Rattle.mschap.proofs.Laws.{not-size, row-wrong, behind, by-password, behind-password, hash-told, challenge-told, string-made, refused, string-of, answered}
 use Rattle.mschap.proofs.authenticator_string.Statement.{statement}
 use Rattle.mschap.proofs.authenticator_string.Tie as tie
 
@@ -9,8 +9,8 @@ refused-string-requires : tie.Need-refused-string-requires
 refused-string-requires c κs = search needs
 
 returns : tie.Need-returns
-unfolding authenticatorStringAnswer
-returns c = c .refused-string .ensures ∙ string-refused _ _ (row-wrong 24
+unfolding authenticatorStringAnswer stringAnswer
+returns c = c .refused-string .ensures ∙ refused string-of _ _ _ (row-wrong 24
     (c .before .before .before .before .before .before .before .args .response .now) _ (c .before .if1 .taken)) not-size
 
 password-hash-requires : tie.Need-password-hash-requires
@@ -20,10 +20,10 @@ refused-string-requires-2 : tie.Need-refused-string-requires-2
 refused-string-requires-2 c κs = search needs
 
 returns-2 : tie.Need-returns-2
-unfolding authenticatorStringAnswer passwordHashAnswer
+unfolding authenticatorStringAnswer passwordHashAnswer stringAnswer
 returns-2 c = let s = c .before .before .before .before .before .before .before .before .before .before .args in
     let n = c .before .if2 .taken in
-    c .refused-string2 .ensures ∙ string-refused _ _ (behind 24 (s .response .now) _ (c .before .before .before .before .if1 .left)
+    c .refused-string2 .ensures ∙ refused string-of _ _ _ (behind 24 (s .response .now) _ (c .before .before .before .before .if1 .left)
     (by-password (s .password .now) (challengeRows (s .peer .now) (s .authenticator .now) (s .name .now))
     (hash-told _ _ (c .before .before .before .password-hash .ensures) .0) n)) n
 
@@ -34,9 +34,9 @@ refused-string-requires-3 : tie.Need-refused-string-requires-3
 refused-string-requires-3 c κs = search needs
 
 returns-3 : tie.Need-returns-3
-unfolding authenticatorStringAnswer passwordHashAnswer challengeHashAnswer
+unfolding authenticatorStringAnswer passwordHashAnswer challengeHashAnswer stringAnswer
 returns-3 c = let s = c .before .before .before .before .before .before .before .before .before .before .before .before .before .args in
-    c .refused-string3 .ensures ∙ string-refused _ _ (behind 24 (s .response .now) _
+    c .refused-string3 .ensures ∙ refused string-of _ _ _ (behind 24 (s .response .now) _
     (c .before .before .before .before .before .before .before .if1 .left)
     (behind-password (s .password .now) (challengeRows (s .peer .now) (s .authenticator .now) (s .name .now))
     (hash-told _ _ (c .before .before .before .before .before .before .password-hash .ensures) .0)
@@ -53,13 +53,13 @@ signature-requires : tie.Need-signature-requires
 signature-requires c κs = search needs
 
 returns-4 : tie.Need-returns-4
-unfolding authenticatorStringAnswer passwordHashAnswer challengeHashAnswer
+unfolding authenticatorStringAnswer passwordHashAnswer challengeHashAnswer stringAnswer
 returns-4 c = let s = c .before .before .before .before .before .before .before .before .before .before .before .before .before .before .before .before .before .args in
     let z = c .before .before .before .before .before .before .before .before .if2 .left in
     let z′ = c .before .before .before .before .before .if3 .left in
     let h = hash-told _ _ (c .before .before .before .before .before .before .before .before .before .before .password-hash .ensures) in
     let x = challenge-told _ _ (c .before .before .before .before .before .before .before .challenge-hash .ensures) in
-    string-done _ _ (sym (behind 24 (s .response .now) _
+    answered string-of _ _ _ (sym (behind 24 (s .response .now) _
     (c .before .before .before .before .before .before .before .before .before .before .before .if1 .left)
     (behind-password (s .password .now) (challengeRows (s .peer .now) (s .authenticator .now) (s .name .now)) (h .0) z (x .0))) ∙ z′)
     (string-made _ _ _ _ _ (h .1 z) (x .1 z′) (c .signature .ensures))

@@ -3,8 +3,8 @@ use native.Mathlib.Omega.{arith}
 use lib.ListN.{length}
 use lib.Seq.{length-take-le}
 use borrow.Author.Needs.{needs}
-use Rattle.mschap.specs.Answers.{challengeHashAnswer}
-use Rattle.mschap.proofs.Laws.{not-size, count, row-wrong, behind, name-told, name-len, challenge-hashed, challenge-refused, challenge-done}
+use Rattle.mschap.specs.Answers.{challengeAnswer, challengeHashAnswer}
+use Rattle.mschap.proofs.Laws.{not-size, count, row-wrong, behind, name-told, name-len, challenge-hashed, refused, challenge-of, answered}
 use Rattle.mschap.proofs.challenge_hash.Statement.{statement}
 use Rattle.mschap.proofs.challenge_hash.Tie as tie
 
@@ -12,16 +12,16 @@ refused-challenge-requires : tie.Need-refused-challenge-requires
 refused-challenge-requires c κs = search needs
 
 returns : tie.Need-returns
-unfolding challengeHashAnswer
-returns c = c .refused-challenge .ensures ∙ challenge-refused _ _
+unfolding challengeHashAnswer challengeAnswer
+returns c = c .refused-challenge .ensures ∙ refused challenge-of _ _ _
     (row-wrong 16 (c .before .before .before .before .before .args .peer .now) _ (c .before .if1 .taken)) not-size
 
 refused-challenge-requires-2 : tie.Need-refused-challenge-requires-2
 refused-challenge-requires-2 c κs = search needs
 
 returns-2 : tie.Need-returns-2
-unfolding challengeHashAnswer
-returns-2 c = c .refused-challenge2 .ensures ∙ challenge-refused _ _
+unfolding challengeHashAnswer challengeAnswer
+returns-2 c = c .refused-challenge2 .ensures ∙ refused challenge-of _ _ _
     (behind 16 (c .before .before .before .before .before .before .args .peer .now) _ (c .before .before .if1 .left)
     (row-wrong 16 (c .before .before .before .before .before .before .args .authenticator .now) _ (c .before .if2 .taken))) not-size
 
@@ -32,8 +32,8 @@ refused-challenge-requires-3 : tie.Need-refused-challenge-requires-3
 refused-challenge-requires-3 c κs = search needs
 
 returns-3 : tie.Need-returns-3
-unfolding challengeHashAnswer
-returns-3 c = c .refused-challenge3 .ensures ∙ challenge-refused _ _
+unfolding challengeHashAnswer challengeAnswer
+returns-3 c = c .refused-challenge3 .ensures ∙ refused challenge-of _ _ _
     (behind 16 (c .before .before .before .before .before .before .before .before .before .args .peer .now) _
     (c .before .before .before .before .before .if1 .left) (behind 16
     (c .before .before .before .before .before .before .before .before .before .args .authenticator .now) _
@@ -77,11 +77,11 @@ first-eight-requires : tie.Need-first-eight-requires
 first-eight-requires c κs = search needs
 
 returns-4 : tie.Need-returns-4
-unfolding challengeHashAnswer
+unfolding challengeHashAnswer challengeAnswer
 returns-4 c = let u = c .before .before .before .before .before .before .before .hashed-name in
     let s = c .before .before .before .before .before .before .before .before .before .before .before .before .before .args in
     let z = c .before .before .before .before .before .if3 .left in
-    challenge-done _ _ (sym (behind 16 (s .peer .now) _
+    answered challenge-of _ _ _ (sym (behind 16 (s .peer .now) _
     (c .before .before .before .before .before .before .before .before .before .if1 .left)
     (behind 16 (s .authenticator .now) _ (c .before .before .before .before .before .before .before .before .if2 .left)
     (name-told (s .name .now) (u .ensures)))) ∙ z)

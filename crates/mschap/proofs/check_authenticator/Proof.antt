@@ -2,8 +2,8 @@ use mathlib.Core.Path.{_≡_, _∙_}
 use native.Mathlib.Omega.{arith}
 use lib.ListN.{length}
 use borrow.Author.Needs.{needs}
-use Rattle.mschap.specs.Answers.{authenticatorStringAnswer, checkAuthenticatorAnswer}
-use Rattle.mschap.proofs.Laws.{not-size, row-wrong, behind, string-told, check-refused, string-checked}
+use Rattle.mschap.specs.Answers.{checkAnswer, authenticatorStringAnswer, checkAuthenticatorAnswer}
+use Rattle.mschap.proofs.Laws.{not-size, row-wrong, behind, string-told, string-checked, refused, check-of}
 use Rattle.mschap.proofs.check_authenticator.Statement.{statement}
 use Rattle.mschap.proofs.check_authenticator.Tie as tie
 
@@ -11,8 +11,8 @@ refused-check-requires : tie.Need-refused-check-requires
 refused-check-requires c κs = search needs
 
 returns : tie.Need-returns
-unfolding checkAuthenticatorAnswer
-returns c = c .refused-check .ensures ∙ check-refused _ _ (row-wrong 42
+unfolding checkAuthenticatorAnswer checkAnswer
+returns c = c .refused-check .ensures ∙ refused check-of _ _ _ (row-wrong 42
     (c .before .before .before .before .before .before .before .before .args .received .now) _ (c .before .if1 .taken)) not-size
 
 authenticator-string-requires : tie.Need-authenticator-string-requires
@@ -22,8 +22,8 @@ refused-check-requires-2 : tie.Need-refused-check-requires-2
 refused-check-requires-2 c κs = search needs
 
 returns-2 : tie.Need-returns-2
-unfolding checkAuthenticatorAnswer authenticatorStringAnswer
-returns-2 c = c .refused-check2 .ensures ∙ check-refused _ _
+unfolding checkAuthenticatorAnswer authenticatorStringAnswer checkAnswer
+returns-2 c = c .refused-check2 .ensures ∙ refused check-of _ _ _
     (behind 42 (c .before .before .before .before .before .before .before .before .before .before .before .args .received .now) _
     (c .before .before .before .before .if1 .left) (string-told _ _ (c .before .before .before .authenticator-string .ensures) .0))
     (c .before .if2 .taken)

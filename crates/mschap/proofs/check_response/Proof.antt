@@ -2,8 +2,8 @@ use mathlib.Core.Path.{_≡_, _∙_}
 use native.Mathlib.Omega.{arith}
 use lib.ListN.{length}
 use borrow.Author.Needs.{needs}
-use Rattle.mschap.specs.Answers.{ntResponseAnswer, checkResponseAnswer}
-use Rattle.mschap.proofs.Laws.{not-size, row-wrong, behind, response-told, check-refused, response-checked}
+use Rattle.mschap.specs.Answers.{checkAnswer, ntResponseAnswer, checkResponseAnswer}
+use Rattle.mschap.proofs.Laws.{not-size, row-wrong, behind, response-told, response-checked, refused, check-of}
 use Rattle.mschap.proofs.check_response.Statement.{statement}
 use Rattle.mschap.proofs.check_response.Tie as tie
 
@@ -11,8 +11,8 @@ refused-check-requires : tie.Need-refused-check-requires
 refused-check-requires c κs = search needs
 
 returns : tie.Need-returns
-unfolding checkResponseAnswer
-returns c = c .refused-check .ensures ∙ check-refused _ _ (row-wrong 24
+unfolding checkResponseAnswer checkAnswer
+returns c = c .refused-check .ensures ∙ refused check-of _ _ _ (row-wrong 24
     (c .before .before .before .before .before .before .before .args .received .now) _ (c .before .if1 .taken)) not-size
 
 nt-response-requires : tie.Need-nt-response-requires
@@ -22,8 +22,8 @@ refused-check-requires-2 : tie.Need-refused-check-requires-2
 refused-check-requires-2 c κs = search needs
 
 returns-2 : tie.Need-returns-2
-unfolding checkResponseAnswer ntResponseAnswer
-returns-2 c = c .refused-check2 .ensures ∙ check-refused _ _
+unfolding checkResponseAnswer ntResponseAnswer checkAnswer
+returns-2 c = c .refused-check2 .ensures ∙ refused check-of _ _ _
     (behind 24 (c .before .before .before .before .before .before .before .before .before .before .args .received .now) _
     (c .before .before .before .before .if1 .left) (response-told _ _ (c .before .before .before .nt-response .ensures) .0))
     (c .before .if2 .taken)

@@ -1,8 +1,8 @@
 use mathlib.Core.Path.{refl, sym, _∙_}
 use borrow.Author.Needs.{needs}
+use Rattle.mschap.specs.Answers.{hashAnswer, hashHashAnswer}
 use Rattle.mschap.specs.Mschap.{hashHash}
-use Rattle.mschap.specs.Answers.{hashHashAnswer}
-use Rattle.mschap.proofs.Laws.{not-size, row-wrong, behind, hash-refused, hash-done}
+use Rattle.mschap.proofs.Laws.{not-size, row-wrong, behind, refused, hash-of, answered}
 use Rattle.mschap.proofs.hash_hash.Statement.{statement}
 use Rattle.mschap.proofs.hash_hash.Tie as tie
 
@@ -10,16 +10,16 @@ refused-hash-requires : tie.Need-refused-hash-requires
 refused-hash-requires c κs = search needs
 
 returns : tie.Need-returns
-unfolding hashHashAnswer
-returns c = c .refused-hash .ensures ∙ hash-refused _ _ (row-wrong 16 (c .before .before .before .args .hash .now) _
+unfolding hashHashAnswer hashAnswer
+returns c = c .refused-hash .ensures ∙ refused hash-of _ _ _ (row-wrong 16 (c .before .before .before .args .hash .now) _
     (c .before .if1 .taken)) not-size
 
 md4-of-requires : tie.Need-md4-of-requires
 md4-of-requires c κs = search needs
 
 returns-2 : tie.Need-returns-2
-unfolding hashHashAnswer hashHash
-returns-2 c = hash-done _ _ (sym (behind 16 (c .before .before .before .args .hash .now) _ (c .before .if1 .left) refl))
+unfolding hashHashAnswer hashHash hashAnswer
+returns-2 c = answered hash-of _ _ _ (sym (behind 16 (c .before .before .before .args .hash .now) _ (c .before .if1 .left) refl))
     (c .md4-of .ensures)
 
 pub hash-hash-spec : {M : Type 1} → statement M

@@ -1,7 +1,7 @@
 use mathlib.Core.Path.{sym, _∙_}
 use borrow.Author.Needs.{needs}
-use Rattle.mschap.specs.Answers.{challengeRows, passwordHashAnswer, challengeHashAnswer, ntResponseAnswer}
-use Rattle.mschap.proofs.Laws.{by-password, behind-password, hash-told, challenge-told, response-made, response-refused, response-done}
+use Rattle.mschap.specs.Answers.{responseAnswer, challengeRows, passwordHashAnswer, challengeHashAnswer, ntResponseAnswer}
+use Rattle.mschap.proofs.Laws.{by-password, behind-password, hash-told, challenge-told, response-made, refused, response-of, answered}
 use Rattle.mschap.proofs.nt_response.Statement.{statement}
 use Rattle.mschap.proofs.nt_response.Tie as tie
 
@@ -12,9 +12,9 @@ refused-response-requires : tie.Need-refused-response-requires
 refused-response-requires c κs = search needs
 
 returns : tie.Need-returns
-unfolding ntResponseAnswer passwordHashAnswer
+unfolding ntResponseAnswer passwordHashAnswer responseAnswer
 returns c = let s = c .before .before .before .before .before .before .before .before .args in let n = c .before .if1 .taken in
-    c .refused-response .ensures ∙ response-refused _ _ (by-password (s .password .now)
+    c .refused-response .ensures ∙ refused response-of _ _ _ (by-password (s .password .now)
     (challengeRows (s .peer .now) (s .authenticator .now) (s .name .now))
     (hash-told _ _ (c .before .before .before .password-hash .ensures) .0) n) n
 
@@ -25,9 +25,9 @@ refused-response-requires-2 : tie.Need-refused-response-requires-2
 refused-response-requires-2 c κs = search needs
 
 returns-2 : tie.Need-returns-2
-unfolding ntResponseAnswer passwordHashAnswer challengeHashAnswer
+unfolding ntResponseAnswer passwordHashAnswer challengeHashAnswer responseAnswer
 returns-2 c = let s = c .before .before .before .before .before .before .before .before .before .before .before .args in
-    c .refused-response2 .ensures ∙ response-refused _ _ (behind-password (s .password .now)
+    c .refused-response2 .ensures ∙ refused response-of _ _ _ (behind-password (s .password .now)
     (challengeRows (s .peer .now) (s .authenticator .now) (s .name .now))
     (hash-told _ _ (c .before .before .before .before .before .before .password-hash .ensures) .0)
     (c .before .before .before .before .if1 .left) (challenge-told _ _ (c .before .before .before .challenge-hash .ensures) .0))
@@ -43,13 +43,13 @@ response-of-requires : tie.Need-response-of-requires
 response-of-requires c κs = search needs
 
 returns-3 : tie.Need-returns-3
-unfolding ntResponseAnswer passwordHashAnswer challengeHashAnswer
+unfolding ntResponseAnswer passwordHashAnswer challengeHashAnswer responseAnswer
 returns-3 c = let s = c .before .before .before .before .before .before .before .before .before .before .before .before .before .before .before .args in
     let z = c .before .before .before .before .before .before .before .before .if1 .left in
     let z′ = c .before .before .before .before .before .if2 .left in
     let h = hash-told _ _ (c .before .before .before .before .before .before .before .before .before .before .password-hash .ensures) in
     let x = challenge-told _ _ (c .before .before .before .before .before .before .before .challenge-hash .ensures) in
-    response-done _ _ (sym (behind-password (s .password .now) (challengeRows (s .peer .now) (s .authenticator .now) (s .name .now))
+    answered response-of _ _ _ (sym (behind-password (s .password .now) (challengeRows (s .peer .now) (s .authenticator .now) (s .name .now))
     (h .0) z (x .0)) ∙ z′) (response-made _ _ _ _ (h .1 z) (x .1 z′) (c .response-of .ensures))
 
 pub nt-response-spec : {M : Type 1} → statement M

@@ -1,10 +1,10 @@
 use mathlib.Core.Path.{_∙_}
 use mathlib.Core.List.{[]}
 use borrow.Author.Needs.{needs}
+use Rattle.mschap.specs.Answers.{hashAnswer, passwordHashAnswer}
 use Rattle.mschap.specs.Mschap.{passwordHash}
-use Rattle.mschap.specs.Answers.{passwordHashAnswer}
 use Rattle.mschap.specs.Laws.{password-fits}
-use Rattle.mschap.proofs.Laws.{not-size, password-long, password-odd, hash-refused, hash-done}
+use Rattle.mschap.proofs.Laws.{not-size, password-long, password-odd, refused, hash-of, answered}
 use Rattle.mschap.proofs.password_hash.Statement.{statement}
 use Rattle.mschap.proofs.password_hash.Tie as tie
 
@@ -12,24 +12,24 @@ refused-hash-requires : tie.Need-refused-hash-requires
 refused-hash-requires c κs = search needs
 
 returns : tie.Need-returns
-unfolding passwordHashAnswer
-returns c = c .refused-hash .ensures ∙ hash-refused _ _ (password-long (c .before .before .before .args .password .now)
+unfolding passwordHashAnswer hashAnswer
+returns c = c .refused-hash .ensures ∙ refused hash-of _ _ _ (password-long (c .before .before .before .args .password .now)
     (c .before .if1 .taken)) not-size
 
 refused-hash-requires-2 : tie.Need-refused-hash-requires-2
 refused-hash-requires-2 c κs = search needs
 
 returns-2 : tie.Need-returns-2
-unfolding passwordHashAnswer
-returns-2 c = c .refused-hash2 .ensures ∙ hash-refused _ _ (password-odd (c .before .before .before .before .args .password .now)
+unfolding passwordHashAnswer hashAnswer
+returns-2 c = c .refused-hash2 .ensures ∙ refused hash-of _ _ _ (password-odd (c .before .before .before .before .args .password .now)
     (c .before .before .if1 .left) (c .before .if2 .taken)) not-size
 
 md4-of-requires : tie.Need-md4-of-requires
 md4-of-requires c κs = search needs
 
 returns-3 : tie.Need-returns-3
-unfolding passwordHashAnswer passwordHash
-returns-3 c = hash-done _ _ (password-fits (c .before .before .before .before .args .password .now) [] (c .before .before .if1 .left)
+unfolding passwordHashAnswer passwordHash hashAnswer
+returns-3 c = answered hash-of _ _ _ (password-fits (c .before .before .before .before .args .password .now) [] (c .before .before .if1 .left)
     (c .before .if2 .left)) (c .md4-of .ensures)
 
 pub password-hash-spec : {M : Type 1} → statement M
