@@ -1,0 +1,45 @@
+use Prim.Native.Nat.{_≤_, _-_}
+use borrow.Author.Needs.{needs}
+use Rattle.mppe_samples.proofs.cases.each.Statement.{statement}
+use Rattle.mppe_samples.proofs.cases.each.Tie as tie
+
+abbrev Inv-loop : tie.InvT-loop
+Inv-loop strength kind from to n₀ n = n₀ ≤ n
+
+abbrev μ-loop : tie.MeasureT-loop
+μ-loop strength kind from to n₀ n = to - n
+
+loop-holds : tie.Need-loop-holds Inv-loop μ-loop
+loop-holds c = search needs
+
+fresh-requires : tie.Need-fresh-requires Inv-loop μ-loop
+fresh-requires c κs = search needs
+
+case-requires : tie.Need-case-requires Inv-loop μ-loop
+case-requires c κs = search needs
+
+add-n : tie.Need-add-n Inv-loop μ-loop
+add-n c = search needs
+
+loop-less : tie.Need-loop-less Inv-loop μ-loop
+loop-less c = search needs
+
+loop-again : tie.Need-loop-again Inv-loop μ-loop
+loop-again c = search needs
+
+returns : tie.Need-returns Inv-loop μ-loop
+returns c = search needs
+
+pub each-spec : {M : Type 1} → statement M
+each-spec =
+    tie.close
+    (tie.spec
+    Inv-loop
+    μ-loop
+    loop-holds
+    fresh-requires
+    case-requires
+    add-n
+    loop-less
+    loop-again
+    returns)

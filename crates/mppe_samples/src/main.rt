@@ -1,0 +1,110 @@
+// Links, packets sealed and opened, every set of rows that refuse them, and a line between a sender and a receiver that loses packets.
+ghost use Prim.Native.Nat.{_<_};
+use libc::STDOUT_FILENO;
+use mppe::Link;
+use mppe::NewLink;
+use mppe::Outcome;
+use mppe_keys::Strength;
+
+mod cases;
+mod line;
+
+// All cases, in the order of tests/mppe.c.
+fn main() {
+    cases::all(Strength::Bits40);
+    cases::all(Strength::Bits56);
+    cases::all(Strength::Bits128);
+    line::passage(Strength::Bits40);
+    line::passage(Strength::Bits56);
+    line::passage(Strength::Bits128);
+}
+
+// A new link of the samples' start key.
+fn fresh(strength: Strength) -> Link {
+    let made = match strength {
+        Strength::Bits40 => new_link(strength, 8),
+        Strength::Bits56 => new_link(strength, 8),
+        Strength::Bits128 => new_link(strength, 16),
+    };
+    made.link
+}
+
+// A new link of the first n octets of the start key of RFC 3079, 3.5.3, of which 3.5.1 and 3.5.2 have eight, and one octet more.
+fn new_link(strength: Strength, n: usize) -> NewLink {
+    linked(
+        strength,
+        b"\x8b\x7c\xdc\x14\x9b\x99\x3a\x1b\xa1\x18\xcb\x15\x3f\x56\xdc\xcb\x5a",
+        n,
+    )
+}
+
+// A new link of the first n octets of a key; with a part that is not there, of all of it.
+fn linked(strength: Strength, start: &[u8], n: usize) -> NewLink {
+    if start.len() < n {
+        return Link::new(strength, start);
+    }
+    Link::new(strength, &start[0..n])
+}
+
+// Seals the first n octets of a packet into the first octets of a buffer; with a part that is not there, all of it.
+fn seal_within(link: Link, plain: &[u8], n: usize, out: &mut [u8], room: usize) -> Outcome {
+    if plain.len() < n {
+        return link.seal(plain, out);
+    }
+    if out.len() < room {
+        return link.seal(&plain[0..n], out);
+    }
+    link.seal(&plain[0..n], &mut out[0..room])
+}
+
+// Opens the first n octets of a packet into the first octets of a buffer; with a part that is not there, all of it.
+fn open_within(link: Link, packet: &[u8], n: usize, out: &mut [u8], room: usize) -> Outcome {
+    if packet.len() < n {
+        return link.open(packet, out);
+    }
+    if out.len() < room {
+        return link.open(&packet[0..n], out);
+    }
+    link.open(&packet[0..n], &mut out[0..room])
+}
+
+// Prints the bits of a strength behind a label.
+fn headed(label: &[u8], strength: Strength) {
+    io::write_all(STDOUT_FILENO, label);
+    io::print_decimal(STDOUT_FILENO, index(bits(strength)) as u64);
+    io::write_all(STDOUT_FILENO, b" bits\n");
+}
+
+// The bits of a strength.
+fn bits(strength: Strength) -> u8 {
+    match strength {
+        Strength::Bits40 => 40,
+        Strength::Bits56 => 56,
+        Strength::Bits128 => 128,
+    }
+}
+
+// A link record as octets: the strength's bits, both keys, and the count with its high octet in front.
+fn link_octets(link: Link) -> [u8; 35] {
+    let strength = link.strength;
+    let start = link.start;
+    let session = link.session;
+    let mut out = [0u8; 35];
+    out[0] = bits(strength);
+    octets::copy_at(&start, 1, &mut out);
+    octets::copy_at(&session, 17, &mut out);
+    octets::copy_at(&two_octets(link.count as usize), 33, &mut out);
+    out
+}
+
+// A number below 65,536 as two octets, the high one in front.
+fn two_octets(n: usize) -> [u8; 2] {
+    [(n / 256 % 256) as u8, (n % 256) as u8]
+}
+
+// An octet as a number.
+fn index(x: u8) -> usize
+    ensures { λ r. ⌜ r < 256 ⌝ }
+{
+    x as usize
+}

@@ -1,0 +1,167 @@
+/*
+ * A pump station logs in at the control room, both work out the link's keys, and readings go over a line that loses some of them.
+ * It shows what a program in C does with the library, and what the library does with packets that it must not hand up.
+ */
+#include "udukemb.h"
+
+#include <stdio.h>
+#include <string.h>
+
+enum { BITS = 128, READINGS = 6, LOST_FROM = 2, LOST_TO = 3 };
+
+/* The user, password and challenges of RFC 2759, section 9.2. The password is UTF-16, low octet first. */
+static const uint8_t user[] = { 'U', 's', 'e', 'r' };
+static const uint8_t password[] = { 'c', 0, 'l', 0, 'i', 0, 'e', 0, 'n', 0, 't', 0, 'P', 0, 'a', 0, 's', 0, 's', 0 };
+static const uint8_t wrong_password[] = { 'c', 0, 'l', 0, 'i', 0, 'e', 0, 'n', 0, 't', 0, 'P', 0, 'a', 0, 's', 0, 'S', 0 };
+static const uint8_t control_room_challenge[UDUKEMB_CHALLENGE] = { 0x5B, 0x5D, 0x7C, 0x7D, 0x7B, 0x3F, 0x2F, 0x3E,
+                                                                   0x3C, 0x2C, 0x60, 0x21, 0x32, 0x26, 0x26, 0x28 };
+static const uint8_t station_challenge[UDUKEMB_CHALLENGE] = { 0x21, 0x40, 0x23, 0x24, 0x25, 0x5E, 0x26, 0x2A,
+                                                              0x28, 0x29, 0x5F, 0x2B, 0x3A, 0x33, 0x7C, 0x7E };
+
+/* What the numbers mean, for people. */
+static const char *meaning(uint8_t answer)
+{
+    static const char *const words[] = { "done",
+                                         "it has not the shape of a packet",
+                                         "there is no room for the result",
+                                         "a length is outside its limits",
+                                         "what is inside is no frame that the link carries",
+                                         "its header lacks a flag",
+                                         "it was opened before",
+                                         "the link record is damaged",
+                                         "no strength is both offered and allowed",
+                                         "the user name holds a domain" };
+
+    return answer < sizeof words / sizeof words[0] ? words[answer] : "unknown";
+}
+
+/* Prints octets in hexadecimal behind a label. */
+static void show(const char *label, const uint8_t *octets, size_t n)
+{
+    printf("  %-28s", label);
+    for (size_t i = 0; i < n; i++)
+        printf("%02X", octets[i]);
+    printf("\n");
+}
+
+/* Step 1: the station proves that it knows the password, and the control room proves it in turn. */
+static void login(uint8_t response[UDUKEMB_NT_RESPONSE])
+{
+    uint8_t string[UDUKEMB_AUTHENTICATOR_STRING];
+    struct udukemb_check check;
+
+    printf("1. The station logs in as \"User\"\n");
+    udukemb_nt_response(control_room_challenge, sizeof control_room_challenge, station_challenge, sizeof station_challenge, user,
+                        sizeof user, password, sizeof password, response, UDUKEMB_NT_RESPONSE);
+    show("the station's response", response, UDUKEMB_NT_RESPONSE);
+    check = udukemb_check_response(control_room_challenge, sizeof control_room_challenge, station_challenge,
+                                   sizeof station_challenge, user, sizeof user, password, sizeof password, response,
+                                   UDUKEMB_NT_RESPONSE);
+    printf("  the control room checks it: %s\n", check.yes ? "yes" : "no");
+    check = udukemb_check_response(control_room_challenge, sizeof control_room_challenge, station_challenge,
+                                   sizeof station_challenge, user, sizeof user, wrong_password, sizeof wrong_password, response,
+                                   UDUKEMB_NT_RESPONSE);
+    printf("  the same response, had the password another last letter: %s\n", check.yes ? "yes" : "no");
+    udukemb_authenticator_string(password, sizeof password, response, UDUKEMB_NT_RESPONSE, station_challenge,
+                                 sizeof station_challenge, control_room_challenge, sizeof control_room_challenge, user,
+                                 sizeof user, string, sizeof string);
+    printf("  the control room answers    %.*s\n", (int)sizeof string, (const char *)string);
+    check = udukemb_check_authenticator(password, sizeof password, response, UDUKEMB_NT_RESPONSE, station_challenge,
+                                        sizeof station_challenge, control_room_challenge, sizeof control_room_challenge, user,
+                                        sizeof user, string, sizeof string);
+    printf("  the station checks it: %s\n\n", check.yes ? "yes" : "no");
+}
+
+/* Step 2: both ends agree on a strength, and each works out the same start key. */
+static void make_links(const uint8_t response[UDUKEMB_NT_RESPONSE], uint8_t sender[UDUKEMB_LINK_RECORD],
+                       uint8_t receiver[UDUKEMB_LINK_RECORD])
+{
+    static const uint8_t request[UDUKEMB_OPTION] = { 18, 6, 0x01, 0x00, 0x00, 0xE0 };
+    uint8_t reply[UDUKEMB_OPTION], sent[UDUKEMB_START_KEY_128], received[UDUKEMB_START_KEY_128];
+    struct udukemb_reply picked = udukemb_option_reply(request, sizeof request, true, true, true, reply, sizeof reply);
+
+    printf("2. Both ends make the keys of the link\n");
+    show("the station offers", request, sizeof request);
+    show(picked.accept ? "the control room accepts" : "the control room asks for", reply, sizeof reply);
+    printf("  that is %u bits\n", picked.bits);
+    udukemb_start_key(BITS, false, true, password, sizeof password, response, UDUKEMB_NT_RESPONSE, sent, sizeof sent);
+    udukemb_start_key(BITS, true, false, password, sizeof password, response, UDUKEMB_NT_RESPONSE, received, sizeof received);
+    show("the station sends with", sent, sizeof sent);
+    show("the control room opens with", received, sizeof received);
+    udukemb_new_link(BITS, sent, sizeof sent, sender, UDUKEMB_LINK_RECORD);
+    udukemb_new_link(BITS, received, sizeof received, receiver, UDUKEMB_LINK_RECORD);
+    printf("\n");
+}
+
+/* Opens a packet at the control room and says what came of it. */
+static void open_packet(uint8_t receiver[UDUKEMB_LINK_RECORD], const char *what, const uint8_t *packet, size_t n)
+{
+    uint8_t plain[UDUKEMB_LONGEST_PLAIN];
+    struct udukemb_opened opened = udukemb_open(receiver, UDUKEMB_LINK_RECORD, packet, n, plain, sizeof plain);
+
+    if (opened.answer == UDUKEMB_DONE)
+        printf("  %s: \"%.*s\" (%u lost before it)\n", what, (int)(n - UDUKEMB_PACKET_FRONT - 2), (const char *)plain + 2,
+               opened.changes - 1u);
+    else
+        printf("  %s: refused with %u, %s\n", what, opened.answer, meaning(opened.answer));
+}
+
+/* Step 3: readings are sealed, some are lost, and the rest are opened; what must not be handed up is refused in between. */
+static void run_line(uint8_t sender[UDUKEMB_LINK_RECORD], uint8_t receiver[UDUKEMB_LINK_RECORD])
+{
+    printf("3. The station sends readings; the line loses numbers %d and %d\n", LOST_FROM, LOST_TO);
+    for (int i = 1; i <= READINGS; i++) {
+        uint8_t plain[64] = { 0x00, 0x21 }, packet[sizeof plain + UDUKEMB_PACKET_FRONT];
+        size_t n = 2 + (size_t)snprintf((char *)plain + 2, sizeof plain - 2, "reading %d, level 3.%02d m", i, 10 + i);
+        char label[32];
+
+        udukemb_seal(sender, UDUKEMB_LINK_RECORD, plain, n, packet, sizeof packet);
+        n += UDUKEMB_PACKET_FRONT;
+        if (i == 1)
+            show("packet 1 on the line", packet, n);
+        if (LOST_FROM <= i && i <= LOST_TO)
+            continue;
+        if (i == LOST_TO + 1) {
+            packet[4] ^= 0x40;
+            open_packet(receiver, "packet 4 with a bit turned", packet, n);
+            packet[4] ^= 0x40;
+        }
+        snprintf(label, sizeof label, "packet %d", i);
+        open_packet(receiver, label, packet, n);
+        if (i == LOST_TO + 2) {
+            open_packet(receiver, "packet 5 once more", packet, n);
+            packet[2] &= 0x7F;
+            open_packet(receiver, "packet 5 without a flag", packet, n);
+            open_packet(receiver, "the first five octets of it", packet, 5);
+        }
+    }
+    printf("  station and control room now hold %s link record\n\n",
+           memcmp(sender, receiver, UDUKEMB_LINK_RECORD) == 0 ? "the same" : "another");
+}
+
+/* Step 4: what ties the login to the TLS connection it runs in. */
+static void bind_login(const uint8_t response[UDUKEMB_NT_RESPONSE])
+{
+    uint8_t sent[UDUKEMB_START_KEY_128], received[UDUKEMB_START_KEY_128], base[UDUKEMB_BASE_KEY], key[UDUKEMB_BINDING_KEY];
+
+    printf("4. The binding key of SSTP, from the same login\n");
+    for (int server = 0; server <= 1; server++) {
+        udukemb_start_key(BITS, server, true, password, sizeof password, response, UDUKEMB_NT_RESPONSE, sent, sizeof sent);
+        udukemb_start_key(BITS, server, false, password, sizeof password, response, UDUKEMB_NT_RESPONSE, received,
+                          sizeof received);
+        udukemb_base_key(server, sent, sizeof sent, received, sizeof received, base, sizeof base);
+        udukemb_binding_key(base, sizeof base, key, sizeof key);
+        show(server ? "at the control room" : "at the station", key, sizeof key);
+    }
+}
+
+int main(void)
+{
+    uint8_t response[UDUKEMB_NT_RESPONSE], sender[UDUKEMB_LINK_RECORD], receiver[UDUKEMB_LINK_RECORD];
+
+    login(response);
+    make_links(response, sender, receiver);
+    run_line(sender, receiver);
+    bind_login(response);
+    return 0;
+}
