@@ -2,14 +2,14 @@
    mode over OpenSSL's SHA-1 and RC4, and both ends of a line that loses packets. In the run each fact of demand 3 is
    tested here too. Build: cc -O2 -o mppe tests/mppe.c -lcrypto; the output is crates/mppe_samples/stdout. */
 #define OPENSSL_SUPPRESS_DEPRECATED
+#include "line.h"
+
 #include <openssl/rc4.h>
 #include <openssl/sha.h>
 #include <stdint.h>
 #include <stdio.h>
 #include <stdlib.h>
 #include <string.h>
-
-typedef unsigned char octet;
 
 struct link { int bits; octet start[16], session[16]; unsigned count; };
 struct outcome { int answer; unsigned changes; struct link link; };
@@ -21,13 +21,6 @@ static const octet start_key[17] = {0x8B, 0x7C, 0xDC, 0x14, 0x9B, 0x99, 0x3A, 0x
 static const octet message[14] = {0x00, 0x21, 't', 'e', 's', 't', ' ', 'm', 'e', 's', 's', 'a', 'g', 'e'};
 
 /* ---- Printing ---- */
-
-static void octets(const octet *p, size_t n)
-{
-    for (size_t k = 0; k < n; k++)
-        printf("%02x", p[k]);
-    printf("\n");
-}
 
 static void numbered(const char *label, size_t number, int answer, const octet *p, size_t n)
 {

@@ -1,13 +1,14 @@
 /* What crates/mppe_keys_samples must print, worked out apart from the library: RFC 3079's procedures over OpenSSL's
    SHA-1 and RC4. Build: cc -O2 -o mppe_keys tests/mppe_keys.c -lcrypto; the output is crates/mppe_keys_samples/stdout. */
 #define OPENSSL_SUPPRESS_DEPRECATED
+#include "line.h"
+
 #include <openssl/rc4.h>
 #include <openssl/sha.h>
 #include <stdio.h>
 #include <stdlib.h>
 #include <string.h>
 
-typedef unsigned char octet;
 typedef octet key[16];
 
 static octet counted[32];
@@ -16,19 +17,6 @@ static const octet hash_hash[16] = {0x41, 0xC0, 0x0C, 0x58, 0x4B, 0xD2, 0xD9, 0x
 static const octet nt_response[24] = {0x82, 0x30, 0x9E, 0xCD, 0x8D, 0x70, 0x8B, 0x5E, 0xA0, 0x8F, 0xAA, 0x39,
                                       0x81, 0xCD, 0x83, 0x54, 0x42, 0x33, 0x11, 0x4A, 0x3D, 0x85, 0xD6, 0xDF};
 static const octet unreduced[8] = {0xD8, 0x08, 0x01, 0x53, 0x8C, 0xEC, 0x4A, 0x08};
-
-static void octets(const octet *p, size_t n)
-{
-    for (size_t k = 0; k < n; k++)
-        printf("%02x", p[k]);
-    printf("\n");
-}
-
-static void line(const char *label, int answer, const octet *p, size_t n)
-{
-    printf("%s %d ", label, answer);
-    octets(p, n);
-}
 
 static size_t length_of(int bits)
 {

@@ -2,14 +2,14 @@
    and DES. Build: cc -O2 -o mschap tests/mschap.c -lcrypto; the output is crates/mschap_samples/stdout.
    It fails where OpenSSL does not give what sections 9.2 and 9.3 print. */
 #define OPENSSL_SUPPRESS_DEPRECATED
+#include "line.h"
+
 #include <openssl/des.h>
 #include <openssl/md4.h>
 #include <openssl/sha.h>
 #include <stdio.h>
 #include <stdlib.h>
 #include <string.h>
-
-typedef unsigned char octet;
 
 /* A lent input: its octets and how many they are. */
 typedef struct {
@@ -26,14 +26,6 @@ static part of(const void *at, size_t n)
 }
 
 #define LITERAL(s) of(s, sizeof s - 1)
-
-static void line(const char *label, int answer, const octet *p, size_t n)
-{
-    printf("%s %d ", label, answer);
-    for (size_t k = 0; k < n; k++)
-        printf("%02x", p[k]);
-    printf("\n");
-}
 
 static void numbered(const char *label, size_t number, int answer, const octet *p, size_t n)
 {

@@ -1,12 +1,12 @@
 /* What crates/mschap_packets_samples must print, worked out apart from the library: the fields of RFC 1994, section 4.1, and
    RFC 2759, sections 3 and 4, as C structures. Build: cc -O2 -o packet tests/mschap_packets.c; the output is
    crates/mschap_packets_samples/stdout. */
+#include "line.h"
+
 #include <arpa/inet.h>
 #include <stdint.h>
 #include <stdio.h>
 #include <string.h>
-
-typedef unsigned char octet;
 
 struct header {
     octet code;
@@ -36,12 +36,10 @@ static const octet nt_response[24] = {0x82, 0x30, 0x9E, 0xCD, 0x8D, 0x70, 0x8B, 
                                       0x81, 0xCD, 0x83, 0x54, 0x42, 0x33, 0x11, 0x4A, 0x3D, 0x85, 0xD6, 0xDF};
 static octet counted[257];
 
-static void line(const char *label, size_t n, int answer, const octet *p, size_t size)
+static void row(const char *label, size_t n, int answer, const octet *p, size_t size)
 {
     printf("%s %zu %d ", label, n, answer);
-    for (size_t k = 0; k < size; k++)
-        printf("%02x", p[k]);
-    printf("\n");
+    octets(p, size);
 }
 
 /* A packet that is read as a Challenge (1) or a Response (2). */
@@ -98,10 +96,10 @@ static void show(int code, const octet *packet, size_t size)
 {
     struct reading r = reading_of(code, packet, size);
 
-    line(code == 1 ? "challenge" : "peer challenge", r.identifier, r.answer, r.challenge, 16);
+    row(code == 1 ? "challenge" : "peer challenge", r.identifier, r.answer, r.challenge, 16);
     if (code == 2)
-        line("NT-Response", r.identifier, r.answer, r.nt, 24);
-    line("name of", r.name_size, 0, r.name, r.name_size);
+        row("NT-Response", r.identifier, r.answer, r.nt, 24);
+    row("name of", r.name_size, 0, r.name, r.name_size);
 }
 
 static int write_challenge(octet identifier, const octet *value, size_t v, const octet *name, size_t n, octet *out, size_t room)
@@ -146,9 +144,9 @@ static int write_response(octet identifier, const octet *p, size_t np, const oct
 static void write_packet(int code, const void *name, size_t n, octet *out, size_t room)
 {
     if (code == 1)
-        line("write challenge", n, write_challenge(7, authenticator, 16, name, n, out, room), out, room);
+        row("write challenge", n, write_challenge(7, authenticator, 16, name, n, out, room), out, room);
     else
-        line("write response", n, write_response(7, peer, 16, nt_response, 24, name, n, out, room), out, room);
+        row("write response", n, write_response(7, peer, 16, nt_response, 24, name, n, out, room), out, room);
 }
 
 static void sample(int code, octet *packet)
@@ -212,7 +210,7 @@ static void challenge_of(size_t n, size_t room)
 
     memset(out, 0xAA, sizeof out);
     answer = write_challenge(255, counted, n, (const octet *)"User", 4, out, room);
-    line("challenge of", n, answer, out, room);
+    row("challenge of", n, answer, out, room);
 }
 
 static void response_of(size_t n, size_t m, size_t room)
@@ -222,7 +220,7 @@ static void response_of(size_t n, size_t m, size_t room)
 
     memset(out, 0xAA, sizeof out);
     answer = write_response(0, counted, n, counted, m, (const octet *)"User", 4, out, room);
-    line("response of", n, answer, out, room);
+    row("response of", n, answer, out, room);
 }
 
 int main(void)

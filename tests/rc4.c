@@ -2,24 +2,16 @@
    draws by the rule of 01 in plain C, each held against OpenSSL's keystream of the same key.
    Build: cc -O2 -o rc4 tests/rc4.c -lcrypto; the output is crates/rc4_samples/stdout. */
 #define OPENSSL_SUPPRESS_DEPRECATED
+#include "line.h"
+
 #include <openssl/rc4.h>
 #include <stdio.h>
 #include <stdlib.h>
 #include <string.h>
 
-typedef unsigned char octet;
-
 struct generator { octet box[256]; octet i, j; };
 
 static octet counted[32], hashed[32];
-
-static void line(const char *label, int answer, const octet *p, size_t n)
-{
-    printf("%s %d ", label, answer);
-    for (size_t k = 0; k < n; k++)
-        printf("%02x", p[k]);
-    printf("\n");
-}
 
 static void swap(octet *box, int a, int b)
 {

@@ -2,6 +2,8 @@
    RFC 3079's GetAsymmetricStartKey over its SHA-1. Build: cc -O2 -o sstp tests/sstp.c -lcrypto; the output is
    crates/sstp_samples/stdout. */
 #define OPENSSL_SUPPRESS_DEPRECATED
+#include "line.h"
+
 #include <openssl/evp.h>
 #include <openssl/hmac.h>
 #include <openssl/sha.h>
@@ -9,23 +11,8 @@
 #include <stdio.h>
 #include <string.h>
 
-typedef unsigned char octet;
-
 static const octet master[16] = {0xFD, 0xEC, 0xE3, 0x71, 0x7A, 0x8C, 0x83, 0x8C, 0xB3, 0x88, 0xE5, 0x27, 0xAE, 0x3C, 0xDD, 0x31};
 static octet filled[65536];
-
-static void octets(const octet *p, size_t n)
-{
-    for (size_t k = 0; k < n; k++)
-        printf("%02x", p[k]);
-    printf("\n");
-}
-
-static void line(const char *label, int answer, const octet *p, size_t n)
-{
-    printf("%s %d ", label, answer);
-    octets(p, n);
-}
 
 /* GetAsymmetricStartKey at 128 bits, by its table of IsSend and IsServer. */
 static void start_key(int is_server, int is_send, octet out[16])
