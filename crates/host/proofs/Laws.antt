@@ -1,0 +1,294 @@
+-- The ways out of the calls.
+use mathlib.Core.Path.{_≡_, refl, sym, ap, _∙_}
+use mathlib.Core.Bool.{Bool, true, false, not, false≢true}
+use mathlib.Core.List.{List, [], _∷_, _++_, append-nil}
+use Prim.Native.Nat.{ℕ, zero, suc, _+_, _*_, _-_, _/_, _%_, _^_, _≤_, _<_}
+use native.Mathlib.Nat.{suc-ne-zero}
+use native.Mathlib.Omega.{arith}
+use lib.Dec.{eqb, ltb}
+use lib.ListN.{length, take, drop, getD, replicate, length-append, drop-of-length-le}
+use lib.Seq.{take-all, take-at}
+use borrow.Author.Tests.{eq-eqb, ne-eqb, eqb-true, lt-ltb, le-ltb}
+use Rattle.answer.specs.Answer.{done, room, size, notRecord, strength, pick, firstOf, onDone, wrong}
+use Rattle.octets.specs.Octets.{written, writtenAt, bigEndian}
+use Rattle.octets.proofs.Laws.{append-more}
+use Rattle.mschap.specs.declared.Hash.{Hash}
+use Rattle.mschap.specs.declared.Checked.{Checked}
+use Rattle.mschap.specs.Lengths.{longestPassword, responseLength, hashLength}
+use Rattle.mschap.specs.Mschap.{passwordHash, hashHash}
+use Rattle.mschap.specs.Answers.{passwordRows, hashAnswer, passwordHashAnswer, hashHashAnswer}
+use Rattle.mschap.specs.Laws.{passwordHash-length, hashHash-length, hashHash-done}
+use Rattle.mppe_keys.specs.declared.Strength.{Strength}
+use Rattle.mppe_keys.specs.declared.Strength.the-variants.{Bits40, Bits56, Bits128}
+use Rattle.mppe_keys.specs.declared.Role.{Role}
+use Rattle.mppe_keys.specs.declared.Direction.{Direction}
+use Rattle.mppe_keys.specs.declared.Key.{Key}
+use Rattle.mppe_keys.specs.Keys.{bitsOf, keyLength, masterKey, startKey, placed}
+use Rattle.mppe_keys.specs.Answers.{refusal, keyAnswer, oneCode, twoCode, masterKeyAnswer, startKeyAnswer}
+use Rattle.mppe_keys.specs.Laws.{masterKey-length, startKey-length}
+use Rattle.ccp.specs.declared.Strengths.{Strengths}
+use Rattle.ccp.specs.declared.Choice.{Choice}
+use Rattle.ccp.specs.declared.Reply.{Reply as CcpReply}
+use Rattle.ccp.specs.declared.Reply.the-variants.{Accept, CounterOffer, Refused}
+use Rattle.ccp.specs.Option.{optionOctets, only}
+use Rattle.ccp.specs.Answers.{writeNumber, writeOut, replyAnswer, numberOf}
+use Rattle.mppe.specs.declared.Link.{Link}
+use Rattle.mppe.specs.declared.NewLink.{NewLink}
+use Rattle.mppe.specs.declared.Outcome.{Outcome}
+use Rattle.mppe.specs.Link.{Result, newLink}
+use Rattle.host.specs.declared.Check.{Check}
+use Rattle.host.specs.declared.Reply.{Reply}
+use Rattle.host.specs.declared.Opened.{Opened}
+use Rattle.host.specs.Host.{Given, Linked, given, checkOf, roleOf, directionOf, strengthOf, noStrength, startKeyFrom, masterKeyFrom, credentialRows, startKeyGiven, choiceOctets, optionGiven, optionReply, choiceReply, replyOf, replyOctets, recordLength, recordOctets, recordIn, noRecord, newLinkGiven, linked, linkedBy, openedBy}
+
+-- a result given over: it came with a refusal, it has no room, it has
+pub given-refused : (code : ℕ) (result out : List ℕ) → (code ≡ done → ⊥) → (code ≡ given code result out .number) × (out ≡ given code result out .buffer)
+unfolding given
+given-refused zero result out h = absurd (h refl)
+given-refused (suc n) result out h = (refl, refl)
+
+pub given-room : (code : ℕ) (result out : List ℕ) → code ≡ done → length out < length result
+    → (room ≡ given code result out .number) × (out ≡ given code result out .buffer)
+unfolding given
+given-room code result out e h = rw (e, lt-ltb (length out) (length result) h) (refl, refl)
+
+pub given-done : {out′ : List ℕ} (code : ℕ) (result out : List ℕ) → code ≡ done → length result ≤ length out → out′ ≡ written (take (length out) result) out
+    → (done ≡ given code result out .number) × (out′ ≡ given code result out .buffer)
+unfolding given
+given-done code result out e h w = rw (e, le-ltb (length out) (length result) h) (refl, w ∙ rw (take-all (length out) result h))
+
+-- the number and the octets of a call's answer, given over
+pub handed : {A : Type 0} (number : A → ℕ) (octets : A → List ℕ) {got said : A} {r : ℕ} {out′ : List ℕ} (out : List ℕ) → got ≡ said
+    → (r ≡ given (number got) (octets got) out .number) × (out′ ≡ given (number got) (octets got) out .buffer)
+    → (r ≡ given (number said) (octets said) out .number) × (out′ ≡ given (number said) (octets said) out .buffer)
+handed number octets out e w = (w .0 ∙ ap (λ a. given (number a) (octets a) out .number) e, w .1 ∙ ap (λ a. given (number a) (octets a) out .buffer) e)
+
+-- the strength of a number of bits
+pub bits-40 : (bits : ℕ) → bits ≡ 40 → Bits40 ≡ strengthOf bits
+bits-40 bits e = rw (eq-eqb bits 40 e)
+
+pub bits-56 : (bits : ℕ) → (bits ≡ 40 → ⊥) → bits ≡ 56 → Bits56 ≡ strengthOf bits
+bits-56 bits h e = rw (ne-eqb bits 40 h, eq-eqb bits 56 e)
+
+pub bits-128 : (bits : ℕ) → (bits ≡ 40 → ⊥) → (bits ≡ 56 → ⊥) → Bits128 ≡ strengthOf bits
+bits-128 bits h h′ = rw (ne-eqb bits 40 h, ne-eqb bits 56 h′)
+
+pub none-told : {s : Strength} {b : ℕ} (bits : ℕ) → s ≡ strengthOf bits → b ≡ bitsOf s → not (eqb bits b) ≡ noStrength bits
+none-told bits es eb = rw (eb, es)
+
+-- a number that is no strength
+pub none-first : {none : Bool} (rest : ℕ) → none ≡ true → pick none strength rest ≡ strength
+none-first rest h = rw h
+
+pub none-given : {code : ℕ} (result out : List ℕ) → code ≡ strength → (strength ≡ given code result out .number) × (out ≡ given code result out .buffer)
+unfolding given
+none-given result out e = rw e (refl, refl)
+
+-- credentials: a password that is refused, and one that is not
+refused-rows : (a b c : Bool) (hash key : List ℕ) → (pick a size (pick b size done) ≡ done → ⊥)
+    → _≡_ {A = Key}
+    (record { answer = pick a size (pick b size done); octets = onDone (pick a size (pick b size done)) hash (replicate 16 0) })
+    (keyAnswer (pick a size (pick b size (pick c size done))) key)
+unfolding keyAnswer
+refused-rows true b c hash key h = refl
+refused-rows false true c hash key h = refl
+refused-rows false false c hash key h = absurd (h refl)
+
+pub master-refused : {hash : Hash} (password response key : List ℕ) → hash ≡ passwordHashAnswer password → (hash .answer ≡ done → ⊥)
+    → _≡_ {A = Key} (record { answer = hash .answer; octets = hash .octets }) (keyAnswer (firstOf (credentialRows password response)) key)
+unfolding passwordHashAnswer hashAnswer
+master-refused password response key e h =
+    rw e
+    (refused-rows (ltb longestPassword (length password)) (not (eqb (length password % 2) 0)) (wrong responseLength response) (passwordHash password) key
+    (λ z. h (ap (λ a. a .answer) e ∙ z)))
+
+rows-behind : (a b : Bool) (n : ℕ) → pick a size (pick b size done) ≡ done → pick a size (pick b size n) ≡ n
+rows-behind true b n h = absurd (suc-ne-zero 2 h)
+rows-behind false true n h = absurd (suc-ne-zero 2 h)
+rows-behind false false n h = refl
+
+pub master-made : {hash hashed : Hash} {key : Key} (password response : List ℕ) → hash ≡ passwordHashAnswer password → hash .answer ≡ done
+    → hashed ≡ hashHashAnswer (hash .octets) → key ≡ masterKeyAnswer (hashed .octets) response
+    → key ≡ keyAnswer (firstOf (credentialRows password response)) (masterKeyFrom password response)
+unfolding passwordHashAnswer hashAnswer masterKeyAnswer masterKeyFrom twoCode
+master-made {hash} {hashed} password response e h e′ ek =
+    let number : firstOf (passwordRows password) ≡ done = sym (ap (λ a. a .answer) e) ∙ h in
+    let p : List ℕ = passwordHash password in
+    let one : hash .octets ≡ p = ap (λ a. a .octets) e ∙ rw number in
+    let two : hashed .octets ≡ hashHash p = ap (λ a. a .octets) (e′ ∙ ap hashHashAnswer one ∙ hashHash-done p (passwordHash-length password)) in
+    let last : firstOf (credentialRows password response) ≡ firstOf ((size, wrong responseLength response) ∷ []) =
+    rows-behind (ltb longestPassword (length password)) (not (eqb (length password % 2) 0)) (firstOf ((size, wrong responseLength response) ∷ [])) number in
+    ek ∙ rw (two, eq-eqb (length (hashHash p)) 16 (hashHash-length p), last)
+
+-- a master key that is refused, and one that is not
+pub start-refused : {master : Key} (code : ℕ) (m key : List ℕ) → master ≡ keyAnswer code m → (master .answer ≡ done → ⊥) → master ≡ keyAnswer code key
+unfolding keyAnswer
+start-refused zero m key e h = absurd (h (ap (λ a. a .answer) e))
+start-refused (suc n) m key e h = e
+
+placed-whole : (m : List ℕ) → length m ≡ 16 → placed m ≡ m
+unfolding placed
+placed-whole m h = rw (h, append-nil)
+
+start-from : {master key : Key} (code : ℕ) (s : Strength) (role : Role) (direction : Direction) (m : List ℕ) → master ≡ keyAnswer code m
+    → master .answer ≡ done → key ≡ startKeyAnswer s role direction (master .octets) → length m ≡ 16
+    → key ≡ keyAnswer code (startKey s role direction m)
+unfolding keyAnswer startKeyAnswer oneCode
+start-from zero s role direction m e h ek hm = ek ∙ rw (e, placed-whole m hm, eq-eqb (length m) 16 hm)
+start-from (suc n) s role direction m e h ek hm = absurd (suc-ne-zero 2 (sym (ap (λ a. a .answer) e) ∙ h))
+
+pub start-made : {master key : Key} (s : Strength) (role : Role) (direction : Direction) (password response : List ℕ)
+    → master ≡ keyAnswer (firstOf (credentialRows password response)) (masterKeyFrom password response) → master .answer ≡ done
+    → key ≡ startKeyAnswer s role direction (master .octets)
+    → key ≡ keyAnswer (firstOf (credentialRows password response)) (startKeyFrom s role direction password response)
+unfolding startKeyFrom masterKeyFrom
+start-made s role direction password response e h ek =
+    start-from (firstOf (credentialRows password response)) s role direction (masterKeyFrom password response) e h ek
+    (masterKey-length (hashHash (passwordHash password)) response)
+
+-- the front of a start key in its places, given over
+key-given : (a b c : Bool) (n : ℕ) (key out : List ℕ) → length key ≡ n
+    → given (keyAnswer (pick a size (pick b size (pick c size done))) key .answer) (take n (keyAnswer (pick a size (pick b size (pick c size done))) key .octets)) out
+    ≡ given (pick a size (pick b size (pick c size done))) key out
+unfolding keyAnswer given placed
+key-given true b c n key out h = refl
+key-given false true c n key out h = refl
+key-given false false true n key out h = refl
+key-given false false false n key out h = rw (take-at key (replicate (16 - length key) 0) n h)
+
+-- what is given by one definition is given by an equal one
+told : {g g′ : Given} {r : ℕ} {out′ : List ℕ} → g ≡ g′ → (r ≡ g .number) × (out′ ≡ g .buffer) → (r ≡ g′ .number) × (out′ ≡ g′ .buffer)
+told e w = (w .0 ∙ ap (λ g. g .number) e, w .1 ∙ ap (λ g. g .buffer) e)
+
+pub start-given : {s : Strength} {role : Role} {direction : Direction} {key : Key} {out′ : List ℕ} {n r : ℕ} (bits : ℕ) (server send : Bool) (password response out : List ℕ)
+    → noStrength bits ≡ false → s ≡ strengthOf bits → role ≡ roleOf server → direction ≡ directionOf send
+    → key ≡ keyAnswer (firstOf (credentialRows password response)) (startKeyFrom s role direction password response) → n ≡ keyLength s
+    → (r ≡ given (key .answer) (take n (key .octets)) out .number) × (out′ ≡ given (key .answer) (take n (key .octets)) out .buffer)
+    → (r ≡ startKeyGiven bits server send password response out .number) × (out′ ≡ startKeyGiven bits server send password response out .buffer)
+unfolding startKeyGiven startKeyFrom
+start-given {s} {role} {direction} {key} {n = n} bits server send password response out h es er ed ek en w =
+    let k : List ℕ = startKeyFrom s role direction password response in
+    let size : length k ≡ n = startKey-length s role direction (masterKeyFrom password response) ∙ sym en in
+    let same : given (key .answer) (take n (key .octets)) out ≡ given (firstOf (credentialRows password response)) k out =
+    rw ek (key-given (ltb longestPassword (length password)) (not (eqb (length password % 2) 0)) (wrong responseLength response) n k out size) in
+    told (same ∙ rw (h, es, er, ed)) w
+
+-- a new link, given over
+pub new-given : {s : Strength} {new : NewLink} {octets out′ : List ℕ} {r : ℕ} (bits : ℕ) (start out : List ℕ) → noStrength bits ≡ false → s ≡ strengthOf bits
+    → new ≡ newLink s start → octets ≡ recordOctets (new .link) → (r ≡ given (new .answer) octets out .number) × (out′ ≡ given (new .answer) octets out .buffer)
+    → (r ≡ newLinkGiven bits start out .number) × (out′ ≡ newLinkGiven bits start out .buffer)
+unfolding newLinkGiven newLink
+new-given bits start out h es en eo w = told (rw (eo, en, es, h)) w
+
+-- a reply's option written
+pub choice-written : {number : ℕ} {strengths : Strengths} {out′ : List ℕ} (c : Choice) (out : List ℕ) → strengths ≡ only (c .strength)
+    → (number ≡ writeNumber out) × (out′ ≡ writeOut (c .mode) strengths out)
+    → (number ≡ given done (choiceOctets c) out .number) × (out′ ≡ given done (choiceOctets c) out .buffer)
+unfolding given choiceOctets optionOctets writeOut
+choice-written c out e w = (w .0, w .1 ∙ rw e)
+
+pub choice-refused : {r : Reply} {n number : ℕ} (accept : Bool) (c : Choice) → number ≡ n → (number ≡ done → ⊥)
+    → r ≡ record { answer = number; accept = false; bits = 0 } → r ≡ choiceReply accept c n
+unfolding choiceReply
+choice-refused {number = zero} accept c e h er = absurd (h refl)
+choice-refused {number = suc n} accept c e h er = rw (← e) er
+
+pub choice-replied : {n number b : ℕ} (accept : Bool) (c : Choice) → number ≡ n → number ≡ done → b ≡ bitsOf (c .strength)
+    → _≡_ {A = Reply} (record { answer = number; accept = accept; bits = b }) (choiceReply accept c n)
+unfolding choiceReply
+choice-replied accept c e h eb = rw (← e, h, eb)
+
+pub replied : {rep rep′ : CcpReply} {r : Reply} {out′ : List ℕ} (option : List ℕ) (allowed : Strengths) (out : List ℕ) → rep ≡ replyAnswer option allowed → rep ≡ rep′
+    → (r ≡ replyOf rep′ (given (numberOf rep′) (replyOctets rep′) out .number)) × (out′ ≡ given (numberOf rep′) (replyOctets rep′) out .buffer)
+    → (r ≡ optionReply option allowed out) × (out′ ≡ optionGiven option allowed out .buffer)
+unfolding optionReply optionGiven
+replied option allowed out e e′ w = rw (sym e ∙ e′) w
+
+pub reply-refused : {r : Reply} (number : ℕ) (out : List ℕ) → r ≡ record { answer = number; accept = false; bits = 0 }
+    → (r ≡ replyOf (Refused number) (given number [] out .number)) × (out ≡ given number [] out .buffer)
+unfolding given
+reply-refused zero out e = rw (le-ltb (length out) 0 (omega arith)) (e, refl)
+reply-refused (suc n) out e = (e, refl)
+
+-- octets that hold no record, and what is known of others
+pub not-long : (octets : List ℕ) → (length octets ≡ recordLength → ⊥) → true ≡ noRecord octets
+unfolding noRecord
+not-long octets h = rw (ne-eqb (length octets) recordLength h)
+
+pub long : {none : Bool} (octets : List ℕ) → length octets ≡ recordLength → none ≡ noStrength (getD octets 0 0) → none ≡ noRecord octets
+unfolding noRecord
+long octets h e = rw (eq-eqb (length octets) recordLength h) e
+
+pub held-length : {none : Bool} (octets : List ℕ) → none ≡ noRecord octets → none ≡ false → length octets ≡ recordLength
+unfolding noRecord
+held-length octets e h = go (eqb (length octets) recordLength) refl (sym h ∙ e)
+  where
+    go : (t : Bool) → eqb (length octets) recordLength ≡ t → false ≡ pick t (noStrength (getD octets 0 0)) true → length octets ≡ recordLength
+    go true q z = eqb-true (length octets) recordLength q
+    go false q z = absurd (false≢true z)
+
+-- the record that octets hold
+pub record-read : {s : Strength} {start session : List ℕ} {count : ℕ} (octets : List ℕ) → s ≡ strengthOf (getD octets 0 0) → start ≡ take 16 (drop 1 octets)
+    → session ≡ take 16 (drop 17 octets) → count ≡ getD octets 33 0 * 256 + getD octets 34 0
+    → _≡_ {A = Link} (record { strength = s; start = start; session = session; count = count }) (recordIn octets)
+unfolding recordIn
+record-read octets es eb ek ec = rw (es, eb, ek, ec)
+
+-- a key's places copied
+pub places-copied : {r : List ℕ} (key : List ℕ) → r ≡ written (take 16 key) (replicate 16 0) → length key ≡ 16 → r ≡ key
+places-copied key e h = e ∙ rw (take-all 16 key (omega arith), h, append-nil)
+
+-- the octets of a record, one part behind the other
+two-octets : (n : ℕ) → n < 65536 → n / 256 ∷ n % 256 ∷ [] ≡ bigEndian 2 n
+two-octets n h =
+    let high : n / 256 ^ 1 % 256 ≡ n / 256 = omega arith in
+    let low : n / 256 ^ 0 % 256 ≡ n % 256 = omega arith in
+    rw (high, low)
+
+pub record-laid : {b : ℕ} {t₁ t₂ t₃ t₄ : List ℕ} (l : Link) → b ≡ bitsOf (l .strength) → t₁ ≡ writtenAt 0 (take 35 (b ∷ [])) (replicate 35 0)
+    → t₂ ≡ writtenAt 1 (take (length t₁ - 1) (l .start)) t₁ → t₃ ≡ writtenAt 17 (take (length t₂ - 17) (l .session)) t₂
+    → t₄ ≡ writtenAt 33 (take (length t₃ - 33) (l .count / 256 ∷ l .count % 256 ∷ [])) t₃
+    → length (l .start) ≡ 16 → length (l .session) ≡ 16 → l .count < 65536 → t₄ ≡ recordOctets l
+unfolding recordOctets
+record-laid {b} l eb e₁ e₂ e₃ e₄ hs hk hc =
+    let g₁ = append-more [] (b ∷ []) 0 35 refl e₁ refl (omega arith) in
+    let g₂ = append-more (b ∷ []) (l .start) 1 34 g₁ e₂ refl (omega arith) in
+    let g₃ = append-more (b ∷ l .start) (l .session) 17 (34 - length (l .start)) g₂ e₃ (omega arith) (omega arith) in
+    let both : length ((b ∷ l .start) ++ l .session) ≡ 33 = length-append (b ∷ l .start) (l .session) ∙ omega arith in
+    let g₄ = append-more ((b ∷ l .start) ++ l .session) (l .count / 256 ∷ l .count % 256 ∷ []) 33 (34 - length (l .start) - length (l .session)) g₃ e₄ (sym both) (omega arith) in
+    let all : 34 - length (l .start) - length (l .session) - 2 ≡ 0 = omega arith in
+    let none : replicate {A = ℕ} (34 - length (l .start) - length (l .session) - 2) 0 ≡ [] = ap (λ n. replicate {A = ℕ} n 0) all in
+    let count : l .count / 256 ∷ l .count % 256 ∷ [] ≡ bigEndian 2 (l .count) = two-octets (l .count) hc in
+    let front : List ℕ = ((b ∷ l .start) ++ l .session) ++ (l .count / 256 ∷ l .count % 256 ∷ []) in
+    g₄ ∙ ap (λ z. front ++ z) none ∙ append-nil front ∙ rw (eb, count)
+
+-- the record of a call written back
+pub record-put : {octets out′ : List ℕ} {r : ℕ} (code : ℕ) (l : Link) (out : List ℕ) → octets ≡ recordOctets l
+    → (r ≡ given code octets out .number) × (out′ ≡ given code octets out .buffer) → length octets ≡ recordLength → length out ≡ recordLength
+    → out′ ≡ onDone code (recordOctets l) out
+unfolding given
+record-put {octets} zero l out e w h h′ =
+    w .1 ∙ rw (le-ltb (length out) (length octets) (omega arith), drop-of-length-le out {i = length octets} (omega arith), append-nil, e)
+record-put (suc n) l out e w h h′ = w .1
+
+-- a call on the record in lent octets: they hold none, they hold one
+pub linked-none : {none : Bool} (call : Link → Result) (octets out : List ℕ) → none ≡ noRecord octets → none ≡ true
+    → _≡_ {A = Linked} (record { number = notRecord; changed = 0; octets = octets; buffer = out }) (linked call octets out)
+unfolding linked
+linked-none call octets out e h = rw (sym e ∙ h)
+
+pub linked-made : {none : Bool} {l : Link} {made : Outcome} {octets′ out′ : List ℕ} (call : Link → Result) (octets out : List ℕ) → none ≡ noRecord octets
+    → none ≡ false → l ≡ recordIn octets → (made ≡ call l .outcome) × (out′ ≡ call l .buffer)
+    → octets′ ≡ onDone (made .answer) (recordOctets (made .link)) octets
+    → _≡_ {A = Linked} (record { number = made .answer; changed = made .changes; octets = octets′; buffer = out′ }) (linked call octets out)
+unfolding linked linkedBy
+linked-made call octets out e h el w eo = rw (sym e ∙ h, eo, w .0, w .1, el)
+
+-- what seal and open tell of it
+pub seal-told : {l l′ : Linked} → l ≡ l′ → (l .number ≡ l′ .number) × (l .octets ≡ l′ .octets) × (l .buffer ≡ l′ .buffer)
+seal-told e = (ap (λ l. l .number) e, ap (λ l. l .octets) e, ap (λ l. l .buffer) e)
+
+pub open-told : {l l′ : Linked} → l ≡ l′
+    → (_≡_ {A = Opened} (record { answer = l .number; changes = l .changed }) (openedBy l′)) × (l .octets ≡ l′ .octets) × (l .buffer ≡ l′ .buffer)
+unfolding openedBy
+open-told e = (ap openedBy e, ap (λ l. l .octets) e, ap (λ l. l .buffer) e)

@@ -1,0 +1,41 @@
+use borrow.Author.Needs.{needs}
+use Rattle.host.proofs.Laws.{choice-written, choice-refused, choice-replied}
+use Rattle.host.proofs.put_reply.Statement.{statement}
+use Rattle.host.proofs.put_reply.Tie as tie
+
+only-requires : tie.Need-only-requires
+only-requires c κs = search needs
+
+write-requires : tie.Need-write-requires
+write-requires c κs = search needs
+
+refused-reply-requires : tie.Need-refused-reply-requires
+refused-reply-requires c κs = search needs
+
+same-length : tie.Need-same-length
+same-length c = search needs
+
+returns : tie.Need-returns
+returns c = let w = choice-written _ _ (c .before .before .before .before .before .before .only .ensures) (c .before .before .before .before .write .ensures) in (choice-refused _ _ (w .0) (c .before .if1 .taken) (c .refused-reply .ensures), w .1)
+
+bits-of-requires : tie.Need-bits-of-requires
+bits-of-requires c κs = search needs
+
+same-length-2 : tie.Need-same-length-2
+same-length-2 c = search needs
+
+returns-2 : tie.Need-returns-2
+returns-2 c = let w = choice-written _ _ (c .before .before .before .before .before .before .only .ensures) (c .before .before .before .before .write .ensures) in (choice-replied _ _ (w .0) (c .before .if1 .left) (c .bits-of .ensures), w .1)
+
+pub put-reply-spec : {M : Type 1} → statement M
+put-reply-spec =
+    tie.close
+    (tie.spec
+    only-requires
+    write-requires
+    refused-reply-requires
+    same-length
+    returns
+    bits-of-requires
+    same-length-2
+    returns-2)

@@ -1,0 +1,80 @@
+use borrow.Author.Needs.{needs}
+use mathlib.Core.Path.{_≡_}
+use Prim.Native.Nat.{_<_}
+use lib.ListN.{length}
+use Rattle.host.proofs.Laws.{record-laid}
+use Rattle.host.proofs.record_octets.Statement.{statement}
+use Rattle.host.proofs.record_octets.Tie as tie
+
+bits-of-requires : tie.Need-bits-of-requires
+bits-of-requires c κs = search needs
+
+slice-aggregate-copy-at : tie.Need-slice-aggregate-copy-at
+slice-aggregate-copy-at c = search needs
+
+slice-aggregate-copy-at-2 : tie.Need-slice-aggregate-copy-at-2
+slice-aggregate-copy-at-2 c = search needs
+
+copy-at-requires : tie.Need-copy-at-requires
+copy-at-requires c κs = search needs
+
+slice-aggregate-copy-at-3 : tie.Need-slice-aggregate-copy-at-3
+slice-aggregate-copy-at-3 c = search needs
+
+slice-aggregate-copy-at-4 : tie.Need-slice-aggregate-copy-at-4
+slice-aggregate-copy-at-4 c = search needs
+
+copy-at-requires-2 : tie.Need-copy-at-requires-2
+copy-at-requires-2 c κs = search needs
+
+slice-aggregate-copy-at-5 : tie.Need-slice-aggregate-copy-at-5
+slice-aggregate-copy-at-5 c = search needs
+
+slice-aggregate-copy-at-6 : tie.Need-slice-aggregate-copy-at-6
+slice-aggregate-copy-at-6 c = search needs
+
+copy-at-requires-3 : tie.Need-copy-at-requires-3
+copy-at-requires-3 c κs = search needs
+
+cast-t9 : tie.Need-cast-t9
+cast-t9 c = search needs
+
+cast-t25 : tie.Need-cast-t25
+cast-t25 c = search needs
+
+slice-aggregate-copy-at-7 : tie.Need-slice-aggregate-copy-at-7
+slice-aggregate-copy-at-7 c = search needs
+
+slice-aggregate-copy-at-8 : tie.Need-slice-aggregate-copy-at-8
+slice-aggregate-copy-at-8 c = search needs
+
+copy-at-requires-4 : tie.Need-copy-at-requires-4
+copy-at-requires-4 c κs = search needs
+
+returns : tie.Need-returns
+returns c = let l = c .before .before .before .before .before .before .before .before .before .before .before .before .before .before .before .before .before .before .before .args .link in
+    let start : length (l .start) ≡ 16 = search needs in
+    let session : length (l .session) ≡ 16 = search needs in
+    let count : l .count < 65536 = search needs in
+    record-laid l (c .before .before .before .before .before .before .before .before .before .before .before .before .before .before .before .before .bits-of .ensures) (c .before .before .before .before .before .before .before .before .before .before .before .before .before .copy-at .ensures) (c .before .before .before .before .before .before .before .before .before .copy-at2 .ensures) (c .before .before .before .before .before .copy-at3 .ensures) (c .before .copy-at4 .ensures) start session count
+
+pub record-octets-spec : {M : Type 1} → statement M
+record-octets-spec =
+    tie.close
+    (tie.spec
+    bits-of-requires
+    slice-aggregate-copy-at
+    slice-aggregate-copy-at-2
+    copy-at-requires
+    slice-aggregate-copy-at-3
+    slice-aggregate-copy-at-4
+    copy-at-requires-2
+    slice-aggregate-copy-at-5
+    slice-aggregate-copy-at-6
+    copy-at-requires-3
+    cast-t9
+    cast-t25
+    slice-aggregate-copy-at-7
+    slice-aggregate-copy-at-8
+    copy-at-requires-4
+    returns)

@@ -1,0 +1,48 @@
+use borrow.Author.Needs.{needs}
+use mathlib.Core.Path.{sym, _∙_}
+use Rattle.host.specs.Host.{newLinkGiven}
+use Rattle.host.proofs.Laws.{none-first, none-given, new-given}
+use Rattle.host.proofs.udukemb_new_link.Statement.{statement}
+use Rattle.host.proofs.udukemb_new_link.Tie as tie
+
+no-strength-requires : tie.Need-no-strength-requires
+no-strength-requires c κs = search needs
+
+returns : tie.Need-returns
+unfolding newLinkGiven
+returns c = none-given _ _ (none-first _ (sym (c .before .no-strength .ensures) ∙ c .if1 .taken))
+
+strength-of-requires : tie.Need-strength-of-requires
+strength-of-requires c κs = search needs
+
+new-requires : tie.Need-new-requires
+new-requires c κs = search needs
+
+record-octets-requires : tie.Need-record-octets-requires
+record-octets-requires c κs = search needs
+
+slice-aggregate-give : tie.Need-slice-aggregate-give
+slice-aggregate-give c = search needs
+
+give-requires : tie.Need-give-requires
+give-requires c κs = search needs
+
+same-length : tie.Need-same-length
+same-length c = search needs
+
+returns-2 : tie.Need-returns-2
+returns-2 c = new-given _ _ _ (sym (c .before .before .before .before .before .before .before .before .before .before .no-strength .ensures) ∙ c .before .before .before .before .before .before .before .before .before .if1 .left) (c .before .before .before .before .before .before .before .before .strength-of .ensures) (c .before .before .before .before .before .before .before .new .ensures) (c .before .before .before .before .before .record-octets .ensures) (c .before .before .give .ensures)
+
+pub udukemb-new-link-spec : {M : Type 1} → statement M
+udukemb-new-link-spec =
+    tie.close
+    (tie.spec
+    no-strength-requires
+    returns
+    strength-of-requires
+    new-requires
+    record-octets-requires
+    slice-aggregate-give
+    give-requires
+    same-length
+    returns-2)

@@ -1,0 +1,72 @@
+use borrow.Author.Needs.{needs}
+use mathlib.Core.Path.{_≡_, sym, _∙_}
+use Prim.Native.Nat.{_≤_}
+use lib.ListN.{length}
+use Rattle.mppe_keys.specs.Keys.{keyLength}
+use native.Mathlib.Omega.{arith}
+use Rattle.mppe_keys.specs.Laws.{key-most}
+use Rattle.mppe_keys.proofs.Laws.{count}
+use Rattle.host.specs.Host.{startKeyGiven}
+use Rattle.host.proofs.Laws.{none-first, none-given, start-given}
+use Rattle.host.proofs.udukemb_start_key.Statement.{statement}
+use Rattle.host.proofs.udukemb_start_key.Tie as tie
+
+no-strength-requires : tie.Need-no-strength-requires
+no-strength-requires c κs = search needs
+
+returns : tie.Need-returns
+unfolding startKeyGiven
+returns c = none-given _ _ (none-first _ (sym (c .before .no-strength .ensures) ∙ c .if1 .taken))
+
+strength-of-requires : tie.Need-strength-of-requires
+strength-of-requires c κs = search needs
+
+role-of-requires : tie.Need-role-of-requires
+role-of-requires c κs = search needs
+
+direction-of-requires : tie.Need-direction-of-requires
+direction-of-requires c κs = search needs
+
+start-key-from-requires : tie.Need-start-key-from-requires
+start-key-from-requires c κs = search needs
+
+key-length-requires : tie.Need-key-length-requires
+key-length-requires c κs = search needs
+
+array-share-prefix-octets : tie.Need-array-share-prefix-octets
+array-share-prefix-octets c = let s = c .before .before .before .before .before .strength-of .result in let key = c .before .before .start-key-from .result .octets in
+    let all : length key ≡ 16 = search needs in
+    let n : c .before .key-length .result ≡ keyLength s = c .before .key-length .ensures in
+    let fits : c .before .key-length .result ≤ length key = omega (arith, key-most s) in fits
+
+slice-aggregate-give : tie.Need-slice-aggregate-give
+slice-aggregate-give c = let s = c .before .before .before .before .before .before .strength-of .result in let key = c .before .before .before .start-key-from .result .octets in
+    let all : length key ≡ 16 = search needs in
+    let n : c .before .before .key-length .result ≡ keyLength s = c .before .before .key-length .ensures in
+    count (c .before .before .key-length .result) key (omega (arith, key-most s))
+
+give-requires : tie.Need-give-requires
+give-requires c κs = search needs
+
+same-length : tie.Need-same-length
+same-length c = search needs
+
+returns-2 : tie.Need-returns-2
+returns-2 c = start-given _ _ _ (c .before .before .before .before .before .before .before .before .before .before .before .before .before .before .before .before .args .password .now) (c .before .before .before .before .before .before .before .before .before .before .before .before .before .before .before .before .args .response .now) _ (sym (c .before .before .before .before .before .before .before .before .before .before .before .before .no-strength .ensures) ∙ c .before .before .before .before .before .before .before .before .before .before .before .if1 .left) (c .before .before .before .before .before .before .before .before .before .before .strength-of .ensures) (c .before .before .before .before .before .before .before .before .before .role-of .ensures) (c .before .before .before .before .before .before .before .before .direction-of .ensures) (c .before .before .before .before .before .before .before .start-key-from .ensures) (c .before .before .before .before .before .before .key-length .ensures) (c .before .before .give .ensures)
+
+pub udukemb-start-key-spec : {M : Type 1} → statement M
+udukemb-start-key-spec =
+    tie.close
+    (tie.spec
+    no-strength-requires
+    returns
+    strength-of-requires
+    role-of-requires
+    direction-of-requires
+    start-key-from-requires
+    key-length-requires
+    array-share-prefix-octets
+    slice-aggregate-give
+    give-requires
+    same-length
+    returns-2)

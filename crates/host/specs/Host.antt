@@ -1,0 +1,187 @@
+-- What the calls from C give: each is the call under it, said over numbers and octets (01, "Which form goes where").
+use mathlib.Core.Bool.{Bool, true, false, not}
+use mathlib.Core.List.{List, [], _∷_, _++_}
+use Prim.Native.Nat.{ℕ}
+use lib.Dec.{eqb, ltb}
+use lib.ListN.{length, take, drop, getD}
+use Rattle.answer.specs.Answer.{done, room, size, notRecord, strength, pick, firstOf, onDone, wrong}
+use Rattle.octets.specs.Octets.{bigEndian, written}
+use Rattle.mschap.specs.declared.Checked.{Checked}
+use Rattle.mschap.specs.declared.NtResponse.{NtResponse}
+use Rattle.mschap.specs.declared.AuthenticatorString.{AuthenticatorString}
+use Rattle.mschap.specs.Lengths.{responseLength}
+use Rattle.mschap.specs.Mschap.{passwordHash, hashHash}
+use Rattle.mschap.specs.Answers.{passwordRows, ntResponseAnswer, authenticatorStringAnswer}
+use Rattle.mppe_keys.specs.declared.Strength.{Strength}
+use Rattle.mppe_keys.specs.declared.Strength.the-variants.{Bits40, Bits56, Bits128}
+use Rattle.mppe_keys.specs.declared.Role.{Role}
+use Rattle.mppe_keys.specs.declared.Role.the-variants.{Client, Server}
+use Rattle.mppe_keys.specs.declared.Direction.{Direction}
+use Rattle.mppe_keys.specs.declared.Direction.the-variants.{Send, Receive}
+use Rattle.mppe_keys.specs.Keys.{bitsOf, keyLength, masterKey, startKey}
+use Rattle.ccp.specs.declared.Strengths.{Strengths}
+use Rattle.ccp.specs.declared.Choice.{Choice}
+use Rattle.ccp.specs.declared.Reply.{Reply as CcpReply}
+use Rattle.ccp.specs.declared.Reply.the-variants.{Accept, CounterOffer, Refused}
+use Rattle.ccp.specs.Option.{optionOctets, only}
+use Rattle.ccp.specs.Answers.{replyAnswer, numberOf}
+use Rattle.mppe.specs.declared.Link.{Link}
+use Rattle.mppe.specs.Link.{Result, longestPlain, pairAt, newLink, sealResult, openResult}
+use Rattle.sstp.specs.declared.Key.{Key}
+use Rattle.sstp.specs.Binding.{baseKeyAnswer, bindingKeyAnswer}
+use Rattle.host.specs.declared.Check.{Check}
+use Rattle.host.specs.declared.Reply.{Reply}
+use Rattle.host.specs.declared.Opened.{Opened}
+
+-- what a call that writes a result gives: its number, and the lent buffer after it
+pub record Given : Type 0 where
+  pub number : ℕ
+  pub buffer : List ℕ
+
+-- the number that the result came with, then 2: "the lent output is shorter than the result"
+abbrev pub givenNumber : ℕ → List ℕ → List ℕ → ℕ
+givenNumber code result out = onDone code (firstOf ((room, ltb (length out) (length result)) ∷ [])) code
+
+-- "On 0 only the result's octets are written; the rest of the buffer stays"
+unfoldable pub given : ℕ → List ℕ → List ℕ → Given
+given code result out =
+    record { number = givenNumber code result out; buffer = onDone (givenNumber code result out) (written result out) out }
+
+-- the two checks, in a struct that C has
+unfoldable pub checkOf : Checked → Check
+checkOf c = record { answer = c .answer; yes = c .yes }
+
+-- NT-Response, authenticator string, base key and binding key: the number and the octets of the call's answer
+unfoldable pub ntResponseGiven : List ℕ → List ℕ → List ℕ → List ℕ → List ℕ → Given
+ntResponseGiven authenticator peer name password out =
+    let a : NtResponse = ntResponseAnswer authenticator peer name password in
+    given (a .answer) (a .octets) out
+
+unfoldable pub authenticatorStringGiven : List ℕ → List ℕ → List ℕ → List ℕ → List ℕ → List ℕ → Given
+authenticatorStringGiven password response peer authenticator name out =
+    let a : AuthenticatorString = authenticatorStringAnswer password response peer authenticator name in
+    given (a .answer) (a .octets) out
+
+-- which end of the link, and which way, by a yes or no
+abbrev pub roleOf : Bool → Role
+roleOf server = pick server Server Client
+
+abbrev pub directionOf : Bool → Direction
+directionOf send = pick send Send Receive
+
+unfoldable pub baseKeyGiven : Bool → List ℕ → List ℕ → List ℕ → Given
+baseKeyGiven server send receive out =
+    let a : Key = baseKeyAnswer (roleOf server) send receive in
+    given (a .answer) (a .octets) out
+
+unfoldable pub bindingKeyGiven : List ℕ → List ℕ → Given
+bindingKeyGiven material out =
+    let a : Key = bindingKeyAnswer material in
+    given (a .answer) (a .octets) out
+
+-- the strength that has a number of bits, where one has
+abbrev pub strengthOf : ℕ → Strength
+strengthOf bits = pick (eqb bits 40) Bits40 (pick (eqb bits 56) Bits56 Bits128)
+
+abbrev pub noStrength : ℕ → Bool
+noStrength bits = not (eqb bits (bitsOf (strengthOf bits)))
+
+-- the start key from credentials: password hash, hash-hash, master key, start key
+unfoldable pub masterKeyFrom : List ℕ → List ℕ → List ℕ
+masterKeyFrom password response = masterKey (hashHash (passwordHash password)) response
+
+unfoldable pub startKeyFrom : Strength → Role → Direction → List ℕ → List ℕ → List ℕ
+startKeyFrom s role direction password response = startKey s role direction (masterKeyFrom password response)
+
+abbrev pub credentialRows : List ℕ → List ℕ → List (ℕ × Bool)
+credentialRows password response = passwordRows password ++ (size, wrong responseLength response) ∷ []
+
+-- a number that is no strength is 8, before all else
+unfoldable pub startKeyGiven : ℕ → Bool → Bool → List ℕ → List ℕ → List ℕ → Given
+startKeyGiven bits server send password response out =
+    given (firstOf ((strength, noStrength bits) ∷ credentialRows password response))
+    (startKeyFrom (strengthOf bits) (roleOf server) (directionOf send) password response) out
+
+-- a reply by its cases: the six octets of its option ..
+unfoldable pub choiceOctets : Choice → List ℕ
+choiceOctets c = optionOctets (c .mode) (only (c .strength))
+
+abbrev pub replyOctets : CcpReply → List ℕ
+replyOctets (Accept c) = choiceOctets c
+replyOctets (CounterOffer c) = choiceOctets c
+replyOctets (Refused number) = []
+
+-- .. and what is told of it; "an option reply is neither accept nor counter-offer" where its number is not 0
+unfoldable pub choiceReply : Bool → Choice → ℕ → Reply
+choiceReply accept c number = record { answer = number; accept = onDone number accept false; bits = onDone number (bitsOf (c .strength)) 0 }
+
+abbrev pub replyOf : CcpReply → ℕ → Reply
+replyOf (Accept c) number = choiceReply true c number
+replyOf (CounterOffer c) number = choiceReply false c number
+replyOf (Refused refusal) number = record { answer = number; accept = false; bits = 0 }
+
+-- "Option reply: 1, 8", then 2
+unfoldable pub optionGiven : List ℕ → Strengths → List ℕ → Given
+optionGiven option allowed out = given (numberOf (replyAnswer option allowed)) (replyOctets (replyAnswer option allowed)) out
+
+unfoldable pub optionReply : List ℕ → Strengths → List ℕ → Reply
+optionReply option allowed out = replyOf (replyAnswer option allowed) (optionGiven option allowed out .number)
+
+-- a link record in octets: "strength, start key, session key, last count; 16 places a key"; the strength in bits, the count's highest octet first
+abbrev pub recordLength : ℕ
+recordLength = 35
+
+unfoldable pub recordOctets : Link → List ℕ
+recordOctets l = bitsOf (l .strength) ∷ l .start ++ l .session ++ bigEndian 2 (l .count)
+
+-- the record that octets hold, where they hold one
+unfoldable pub recordIn : List ℕ → Link
+recordIn octets =
+    record {
+      strength = strengthOf (getD octets 0 0);
+      start = take 16 (drop 1 octets);
+      session = take 16 (drop 17 octets);
+      count = pairAt 33 octets;
+    }
+
+-- octets that hold none: not 35, or the first is no strength
+unfoldable pub noRecord : List ℕ → Bool
+noRecord octets = pick (eqb (length octets) recordLength) (noStrength (getD octets 0 0)) true
+
+-- a new link: 8 where the number is no strength, before all else; "Start key: 16 at 128 bits, else 8"
+unfoldable pub newLinkGiven : ℕ → List ℕ → List ℕ → Given
+newLinkGiven bits start out =
+    given (firstOf ((strength, noStrength bits) ∷ (size, wrong (keyLength (strengthOf bits)) start) ∷ []))
+    (recordOctets (newLink (strengthOf bits) start .link)) out
+
+-- what a call on the record in lent octets gives: its number, the key changes made, and both lent buffers after it
+pub record Linked : Type 0 where
+  pub number : ℕ
+  pub changed : ℕ
+  pub octets : List ℕ
+  pub buffer : List ℕ
+
+-- the record is written back where the call answers 0
+unfoldable pub linkedBy : Result → List ℕ → Linked
+linkedBy r octets =
+    record {
+      number = r .outcome .answer;
+      changed = r .outcome .changes;
+      octets = onDone (r .outcome .answer) (recordOctets (r .outcome .link)) octets;
+      buffer = r .buffer;
+    }
+
+-- 7 where the octets hold no record
+unfoldable pub linked : (Link → Result) → List ℕ → List ℕ → Linked
+linked call octets out =
+    pick (noRecord octets) (record { number = notRecord; changed = 0; octets = octets; buffer = out })
+    (linkedBy (call (recordIn octets)) octets)
+
+unfoldable pub sealLinked : List ℕ → List ℕ → List ℕ → Linked
+sealLinked octets plain out = linked (λ l. sealResult longestPlain l plain out) octets out
+
+unfoldable pub openLinked : List ℕ → List ℕ → List ℕ → Linked
+openLinked octets packet out = linked (λ l. openResult longestPlain l packet out) octets out
+
+unfoldable pub openedBy : Linked → Opened
+openedBy l = record { answer = l .number; changes = l .changed }

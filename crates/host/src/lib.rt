@@ -1,0 +1,445 @@
+// What a concentrator written in C calls, over numbers and octets; include/udukemb.h says the same to C.
+ghost use mathlib.Core.Path.{_≡_};
+ghost use Prim.Native.Nat.{_+_, _*_};
+ghost use lib.ListN.{length};
+ghost use mathlib.Core.Bool.{false};
+ghost use Rattle.answer.specs.Answer.{done, firstOf, onDone};
+ghost use Rattle.mschap.specs.Answers.{checkResponseAnswer, checkAuthenticatorAnswer};
+ghost use Rattle.mppe_keys.specs.Keys.{bitsOf};
+ghost use Rattle.mppe_keys.specs.Answers.{keyAnswer};
+ghost use Rattle.host.specs.Host.{given, checkOf, ntResponseGiven, authenticatorStringGiven, roleOf, directionOf, baseKeyGiven, bindingKeyGiven, strengthOf, noStrength, startKeyFrom, masterKeyFrom, credentialRows, startKeyGiven, choiceOctets, optionGiven, optionReply, choiceReply, recordLength, recordOctets, recordIn, noRecord, newLinkGiven, sealLinked, openLinked, openedBy};
+use ccp::Choice;
+use ccp::Strengths;
+use mppe::Link;
+use mppe::Outcome;
+use mppe_keys::Direction;
+use mppe_keys::Role;
+use mppe_keys::Strength;
+use mschap::Checked;
+
+// The octets of a link record.
+const RECORD_LENGTH: usize = 35;
+
+// The number answered, and whether what was received is what it must be; a refusal is a no.
+#[repr(C)]
+pub struct Check {
+    pub answer: u8,
+    pub yes: bool,
+}
+
+// The number answered, whether the reply is an accept, and the strength picked in bits; a no and 0 where it is refused.
+#[repr(C)]
+pub struct Reply {
+    pub answer: u8,
+    pub accept: bool,
+    pub bits: u8,
+}
+
+// The number answered, and the key changes made; none where it is refused.
+#[repr(C)]
+pub struct Opened {
+    pub answer: u8,
+    pub changes: u16,
+}
+
+// Whether a received NT-Response is the one that the password gives.
+#[no_mangle]
+pub extern "C" fn udukemb_check_response(
+    authenticator: &[u8],
+    peer: &[u8],
+    name: &[u8],
+    password: &[u8],
+    received: &[u8],
+) -> Check
+    ensures { λ r. ⌜ r ≡ checkOf (checkResponseAnswer (now (authenticator .entry)) (now (peer .entry)) (now (name .entry))
+        (now (password .entry)) (now (received .entry))) ⌝ }
+{
+    check_of(mschap::check_response(authenticator, peer, name, password, received))
+}
+
+// The NT-Response of a password to both challenges.
+#[no_mangle]
+pub extern "C" fn udukemb_nt_response(
+    authenticator: &[u8],
+    peer: &[u8],
+    name: &[u8],
+    password: &[u8],
+    out: &mut [u8],
+) -> u8
+    ensures { λ r. ⌜ (r ≡ ntResponseGiven (now (authenticator .entry)) (now (peer .entry)) (now (name .entry)) (now (password .entry)) (now (out .entry)) .number)
+        × (now (out .exit) ≡ ntResponseGiven (now (authenticator .entry)) (now (peer .entry)) (now (name .entry)) (now (password .entry)) (now (out .entry)) .buffer) ⌝ }
+{
+    let response = mschap::nt_response(authenticator, peer, name, password);
+    let octets = response.octets;
+    give(response.answer, &octets, out)
+}
+
+// The string by which an authenticator answers an NT-Response.
+#[no_mangle]
+pub extern "C" fn udukemb_authenticator_string(
+    password: &[u8],
+    response: &[u8],
+    peer: &[u8],
+    authenticator: &[u8],
+    name: &[u8],
+    out: &mut [u8],
+) -> u8
+    ensures { λ r. ⌜ (r ≡ authenticatorStringGiven (now (password .entry)) (now (response .entry)) (now (peer .entry)) (now (authenticator .entry))
+        (now (name .entry)) (now (out .entry)) .number)
+        × (now (out .exit) ≡ authenticatorStringGiven (now (password .entry)) (now (response .entry)) (now (peer .entry)) (now (authenticator .entry))
+        (now (name .entry)) (now (out .entry)) .buffer) ⌝ }
+{
+    let string = mschap::authenticator_string(password, response, peer, authenticator, name);
+    let octets = string.octets;
+    give(string.answer, &octets, out)
+}
+
+// Whether a received authenticator string is the one that the password gives.
+#[no_mangle]
+pub extern "C" fn udukemb_check_authenticator(
+    password: &[u8],
+    response: &[u8],
+    peer: &[u8],
+    authenticator: &[u8],
+    name: &[u8],
+    received: &[u8],
+) -> Check
+    ensures { λ r. ⌜ r ≡ checkOf (checkAuthenticatorAnswer (now (password .entry)) (now (response .entry)) (now (peer .entry))
+        (now (authenticator .entry)) (now (name .entry)) (now (received .entry))) ⌝ }
+{
+    check_of(mschap::check_authenticator(password, response, peer, authenticator, name, received))
+}
+
+// The start key of a password and an NT-Response, for one direction at one end of the link.
+#[no_mangle]
+pub extern "C" fn udukemb_start_key(
+    bits: u8,
+    server: bool,
+    send: bool,
+    password: &[u8],
+    response: &[u8],
+    out: &mut [u8],
+) -> u8
+    ensures { λ r. ⌜ (r ≡ startKeyGiven bits server send (now (password .entry)) (now (response .entry)) (now (out .entry)) .number)
+        × (now (out .exit) ≡ startKeyGiven bits server send (now (password .entry)) (now (response .entry)) (now (out .entry)) .buffer) ⌝ }
+{
+    if no_strength(bits) {
+        return answer::STRENGTH;
+    }
+    let strength = strength_of(bits);
+    let key = start_key_from(
+        strength,
+        role_of(server),
+        direction_of(send),
+        password,
+        response,
+    );
+    let n = mppe_keys::key_length(strength);
+    let octets = key.octets;
+    give(key.answer, &octets[..n], out)
+}
+
+// The base key of an end's two start keys.
+#[no_mangle]
+pub extern "C" fn udukemb_base_key(server: bool, send: &[u8], receive: &[u8], out: &mut [u8]) -> u8
+    ensures { λ r. ⌜ (r ≡ baseKeyGiven server (now (send .entry)) (now (receive .entry)) (now (out .entry)) .number)
+        × (now (out .exit) ≡ baseKeyGiven server (now (send .entry)) (now (receive .entry)) (now (out .entry)) .buffer) ⌝ }
+{
+    let key = sstp::base_key(role_of(server), send, receive);
+    let octets = key.octets;
+    give(key.answer, &octets, out)
+}
+
+// The binding key of a base key, or of other key material.
+#[no_mangle]
+pub extern "C" fn udukemb_binding_key(material: &[u8], out: &mut [u8]) -> u8
+    ensures { λ r. ⌜ (r ≡ bindingKeyGiven (now (material .entry)) (now (out .entry)) .number)
+        × (now (out .exit) ≡ bindingKeyGiven (now (material .entry)) (now (out .entry)) .buffer) ⌝ }
+{
+    let key = sstp::binding_key(material);
+    let octets = key.octets;
+    give(key.answer, &octets, out)
+}
+
+// The reply to a requested option, of the strengths that are allowed.
+#[no_mangle]
+pub extern "C" fn udukemb_option_reply(
+    option: &[u8],
+    bits40: bool,
+    bits56: bool,
+    bits128: bool,
+    out: &mut [u8],
+) -> Reply
+    ensures { λ r. ⌜ (r ≡ optionReply (now (option .entry)) (record { bits40 = bits40; bits56 = bits56; bits128 = bits128 }) (now (out .entry)))
+        × (now (out .exit) ≡ optionGiven (now (option .entry)) (record { bits40 = bits40; bits56 = bits56; bits128 = bits128 }) (now (out .entry)) .buffer) ⌝ }
+{
+    let allowed = Strengths {
+        bits40,
+        bits56,
+        bits128,
+    };
+    match ccp::reply_to(option, allowed) {
+        ccp::Reply::Accept(choice) => put_reply(true, choice, out),
+        ccp::Reply::CounterOffer(choice) => put_reply(false, choice, out),
+        ccp::Reply::Refused(number) => refused_reply(number),
+    }
+}
+
+// The link record that both ends begin with.
+#[no_mangle]
+pub extern "C" fn udukemb_new_link(bits: u8, start: &[u8], link_record: &mut [u8]) -> u8
+    ensures { λ r. ⌜ (r ≡ newLinkGiven bits (now (start .entry)) (now (link_record .entry)) .number)
+        × (now (link_record .exit) ≡ newLinkGiven bits (now (start .entry)) (now (link_record .entry)) .buffer) ⌝ }
+{
+    if no_strength(bits) {
+        return answer::STRENGTH;
+    }
+    let new = Link::new(strength_of(bits), start);
+    let link = new.link;
+    let octets = record_octets(link);
+    give(new.answer, &octets, link_record)
+}
+
+// Seals a plain packet with the record in lent octets.
+#[no_mangle]
+pub extern "C" fn udukemb_seal(link_record: &mut [u8], plain: &[u8], out: &mut [u8]) -> u8
+    ensures { λ r. ⌜ (r ≡ sealLinked (now (link_record .entry)) (now (plain .entry)) (now (out .entry)) .number)
+        × (now (link_record .exit) ≡ sealLinked (now (link_record .entry)) (now (plain .entry)) (now (out .entry)) .octets)
+        × (now (out .exit) ≡ sealLinked (now (link_record .entry)) (now (plain .entry)) (now (out .entry)) .buffer) ⌝ }
+{
+    if no_record(link_record) {
+        return answer::RECORD;
+    }
+    let link = record_in(link_record);
+    let made = link.seal(plain, out);
+    put_record(made, link_record);
+    made.answer
+}
+
+// Opens a sealed packet with the record in lent octets.
+#[no_mangle]
+pub extern "C" fn udukemb_open(link_record: &mut [u8], packet: &[u8], out: &mut [u8]) -> Opened
+    ensures { λ r. ⌜ (r ≡ openedBy (openLinked (now (link_record .entry)) (now (packet .entry)) (now (out .entry))))
+        × (now (link_record .exit) ≡ openLinked (now (link_record .entry)) (now (packet .entry)) (now (out .entry)) .octets)
+        × (now (out .exit) ≡ openLinked (now (link_record .entry)) (now (packet .entry)) (now (out .entry)) .buffer) ⌝ }
+{
+    if no_record(link_record) {
+        return Opened {
+            answer: answer::RECORD,
+            changes: 0,
+        };
+    }
+    let link = record_in(link_record);
+    let made = link.open(packet, out);
+    put_record(made, link_record);
+    Opened {
+        answer: made.answer,
+        changes: made.changes,
+    }
+}
+
+// Writes a result into the front of a lent buffer, where it came with 0 and has room.
+fn give(code: u8, result: &[u8], out: &mut [u8]) -> u8
+    ensures { λ r. ⌜ (r ≡ given code (now (result .entry)) (now (out .entry)) .number)
+        × (now (out .exit) ≡ given code (now (result .entry)) (now (out .entry)) .buffer) ⌝ }
+{
+    if code != answer::DONE {
+        return code;
+    }
+    if out.len() < result.len() {
+        return answer::ROOM;
+    }
+    octets::copy(result, out);
+    answer::DONE
+}
+
+// A check's answer in a struct that C has.
+fn check_of(checked: Checked) -> Check
+    ensures { λ r. ⌜ r ≡ checkOf checked ⌝ }
+{
+    Check {
+        answer: checked.answer,
+        yes: checked.yes,
+    }
+}
+
+// Which end of the link asks.
+fn role_of(server: bool) -> Role
+    ensures { λ r. ⌜ r ≡ roleOf server ⌝ }
+{
+    if server { Role::Server } else { Role::Client }
+}
+
+// Which way its packets go.
+fn direction_of(send: bool) -> Direction
+    ensures { λ r. ⌜ r ≡ directionOf send ⌝ }
+{
+    if send {
+        Direction::Send
+    } else {
+        Direction::Receive
+    }
+}
+
+// Whether a number of bits is no strength.
+fn no_strength(bits: u8) -> bool
+    ensures { λ r. ⌜ r ≡ noStrength bits ⌝ }
+{
+    bits != bits_of(strength_of(bits))
+}
+
+// The strength of a number of bits.
+fn strength_of(bits: u8) -> Strength
+    ensures { λ r. ⌜ r ≡ strengthOf bits ⌝ }
+{
+    if bits == 40 {
+        return Strength::Bits40;
+    }
+    if bits == 56 {
+        return Strength::Bits56;
+    }
+    Strength::Bits128
+}
+
+// The bits of a strength.
+fn bits_of(strength: Strength) -> u8
+    ensures { λ r. ⌜ r ≡ bitsOf strength ⌝ }
+{
+    match strength {
+        Strength::Bits40 => 40,
+        Strength::Bits56 => 56,
+        Strength::Bits128 => 128,
+    }
+}
+
+// A start key from credentials.
+fn start_key_from(
+    strength: Strength,
+    role: Role,
+    direction: Direction,
+    password: &[u8],
+    response: &[u8],
+) -> mppe_keys::Key
+    ensures { λ r. ⌜ r ≡ keyAnswer (firstOf (credentialRows (now (password .entry)) (now (response .entry))))
+        (startKeyFrom strength role direction (now (password .entry)) (now (response .entry))) ⌝ }
+{
+    let master = master_key_from(password, response);
+    if master.answer != answer::DONE {
+        return master;
+    }
+    let octets = master.octets;
+    mppe_keys::start_key(strength, role, direction, &octets)
+}
+
+// A master key from credentials.
+fn master_key_from(password: &[u8], response: &[u8]) -> mppe_keys::Key
+    ensures { λ r. ⌜ r ≡ keyAnswer (firstOf (credentialRows (now (password .entry)) (now (response .entry))))
+        (masterKeyFrom (now (password .entry)) (now (response .entry))) ⌝ }
+{
+    let hash = mschap::password_hash(password);
+    let octets = hash.octets;
+    if hash.answer != answer::DONE {
+        return mppe_keys::Key {
+            answer: hash.answer,
+            octets,
+        };
+    }
+    let hash_hash = mschap::hash_hash(&octets);
+    let hashed = hash_hash.octets;
+    mppe_keys::master_key(&hashed, response)
+}
+
+// Writes the option of a choice.
+fn put_reply(accept: bool, choice: Choice, out: &mut [u8]) -> Reply
+    ensures { λ r. ⌜ (r ≡ choiceReply accept choice (given done (choiceOctets choice) (now (out .entry)) .number))
+        × (now (out .exit) ≡ given done (choiceOctets choice) (now (out .entry)) .buffer) ⌝ }
+{
+    let mode = choice.mode;
+    let strength = choice.strength;
+    let number = ccp::write(mode, ccp::only(strength), out);
+    if number != answer::DONE {
+        return refused_reply(number);
+    }
+    Reply {
+        answer: number,
+        accept,
+        bits: bits_of(strength),
+    }
+}
+
+// A refusal of a reply.
+fn refused_reply(number: u8) -> Reply
+    ensures { λ r. ⌜ r ≡ record { answer = number; accept = false; bits = 0 } ⌝ }
+{
+    Reply {
+        answer: number,
+        accept: false,
+        bits: 0,
+    }
+}
+
+// Whether octets hold no link record.
+fn no_record(octets: &[u8]) -> bool
+    ensures { λ r. ⌜ r ≡ noRecord (now (octets .entry)) ⌝ }
+{
+    if octets.len() != RECORD_LENGTH {
+        return true;
+    }
+    no_strength(octets[0])
+}
+
+// The link record that octets hold.
+fn record_in(octets: &[u8]) -> Link
+    requires { ⌜ length (now octets) ≡ recordLength ⌝ }
+    ensures { λ r. ⌜ r ≡ recordIn (now (octets .entry)) ⌝ }
+{
+    Link {
+        strength: strength_of(octets[0]),
+        start: places(&octets[1..17]),
+        session: places(&octets[17..33]),
+        count: pair(octets[33], octets[34]),
+    }
+}
+
+// The number of two octets, highest first.
+fn pair(high: u8, low: u8) -> u16
+    ensures { λ r. ⌜ r ≡ high * 256 + low ⌝ }
+{
+    high as u16 * 256 + low as u16
+}
+
+// A key in its places.
+fn places(key: &[u8]) -> [u8; 16]
+    requires { ⌜ length (now key) ≡ 16 ⌝ }
+    ensures { λ r. ⌜ r ≡ now (key .entry) ⌝ }
+{
+    let mut places = [0u8; 16];
+    octets::copy(key, &mut places);
+    places
+}
+
+// Writes the record of a call that answered 0.
+fn put_record(made: Outcome, link_record: &mut [u8])
+    requires { ⌜ length (now link_record) ≡ recordLength ⌝ }
+    ensures { λ _. ⌜ now (link_record .exit) ≡ onDone (made .answer) (recordOctets (made .link)) (now (link_record .entry)) ⌝ }
+{
+    let link = made.link;
+    let octets = record_octets(link);
+    give(made.answer, &octets, link_record);
+}
+
+// The octets of a link record.
+fn record_octets(link: Link) -> [u8; 35]
+    ensures { λ r. ⌜ r ≡ recordOctets link ⌝ }
+{
+    let strength = link.strength;
+    let start = link.start;
+    let session = link.session;
+    let count = link.count;
+    let mut octets = [0u8; 35];
+    octets::copy_at(&[bits_of(strength)], 0, &mut octets);
+    octets::copy_at(&start, 1, &mut octets);
+    octets::copy_at(&session, 17, &mut octets);
+    octets::copy_at(&[(count / 256) as u8, (count % 256) as u8], 33, &mut octets);
+    octets
+}
