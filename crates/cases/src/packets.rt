@@ -1,0 +1,111 @@
+// Cases of Challenge and Response packets and of the CCP option.
+use crate::Numbers;
+use crate::low;
+use crate::tell;
+use ccp::Mode;
+use ccp::Strengths;
+use mschap_packets::Kind;
+
+// The calls 32 to 38.
+pub fn call(n: Numbers, a: &[u8], b: &[u8], c: &[u8], lent: &mut [u8]) {
+    let call = n.call;
+    match call {
+        32 => tell_challenge(a),
+        33 => tell_response(a),
+        34 => tell_name(kind(n.x), a),
+        35 => tell_write_challenge(low(n.x), a, b, lent),
+        36 => tell_write_response(low(n.x), a, b, c, lent),
+        37 => tell_option(a),
+        38 => tell_write_option(mode(n.x), strengths(n.y), lent),
+        _ => {}
+    }
+}
+
+// A Challenge read: identifier and value.
+fn tell_challenge(a: &[u8]) {
+    let read = mschap_packets::read_challenge(a);
+    let value = read.value;
+    let mut fields = [0u8; 17];
+    fields[0] = read.identifier;
+    octets::copy_at(&value, 1, &mut fields);
+    tell(read.answer, &fields, &[]);
+}
+
+// A Response read: identifier, peer challenge and NT-Response.
+fn tell_response(a: &[u8]) {
+    let read = mschap_packets::read_response(a);
+    let peer = read.peer_challenge;
+    let response = read.nt_response;
+    let mut fields = [0u8; 41];
+    fields[0] = read.identifier;
+    octets::copy_at(&peer, 1, &mut fields);
+    octets::copy_at(&response, 17, &mut fields);
+    tell(read.answer, &fields, &[]);
+}
+
+// The name of a packet, which has no number of its own.
+fn tell_name(kind: Kind, a: &[u8]) {
+    let name = mschap_packets::name(kind, a);
+    tell(0, name, &[]);
+}
+
+// A Challenge written.
+fn tell_write_challenge(identifier: u8, a: &[u8], b: &[u8], lent: &mut [u8]) {
+    let number = mschap_packets::write_challenge(identifier, a, b, lent);
+    tell(number, &[], lent);
+}
+
+// A Response written.
+fn tell_write_response(identifier: u8, a: &[u8], b: &[u8], c: &[u8], lent: &mut [u8]) {
+    let number = mschap_packets::write_response(identifier, a, b, c, lent);
+    tell(number, &[], lent);
+}
+
+// An option read: its mode, and 40, 56 and 128 bits, each 1 or 0.
+fn tell_option(a: &[u8]) {
+    let offer = ccp::read(a);
+    let mode = offer.mode;
+    let strengths = offer.strengths;
+    let stateless = match mode {
+        Mode::Stateless => 1,
+        Mode::Stateful => 0,
+    };
+    let fields = [
+        stateless,
+        strengths.bits40 as u8,
+        strengths.bits56 as u8,
+        strengths.bits128 as u8,
+    ];
+    tell(offer.answer, &fields, &[]);
+}
+
+// An option written.
+fn tell_write_option(mode: Mode, strengths: Strengths, lent: &mut [u8]) {
+    let number = ccp::write(mode, strengths, lent);
+    tell(number, &[], lent);
+}
+
+// Kind n: 0 is a Challenge.
+fn kind(n: usize) -> Kind {
+    if n == 0 {
+        return Kind::Challenge;
+    }
+    Kind::Response
+}
+
+// Mode n: 0 is stateful, as in the option.
+fn mode(n: usize) -> Mode {
+    if n == 0 {
+        return Mode::Stateful;
+    }
+    Mode::Stateless
+}
+
+// Set n of strengths.
+fn strengths(n: usize) -> Strengths {
+    Strengths {
+        bits40: n % 2 == 1,
+        bits56: n / 2 % 2 == 1,
+        bits128: n / 4 % 2 == 1,
+    }
+}

@@ -1,0 +1,102 @@
+// Cases of digests and ciphers.
+use crate::Numbers;
+use crate::low;
+use crate::tell;
+use rc4::Rc4;
+
+// The calls 0 to 7.
+pub fn call(n: Numbers, a: &[u8], b: &[u8], lent: &mut [u8]) {
+    let call = n.call;
+    match call {
+        0 => tell_md4(a),
+        1 => tell_sha1(a),
+        2 => tell_sha256(a),
+        3 => tell_hmac(a, b),
+        4 => tell_des(a, b),
+        5 => tell_keyed(a),
+        6 => tell_run(state(n, a), b, lent),
+        7 => tell_draw(state(n, a)),
+        _ => {}
+    }
+}
+
+// MD4 of a text.
+fn tell_md4(a: &[u8]) {
+    let d = md4::md4(a);
+    let octets = d.octets;
+    tell(d.answer, &octets, &[]);
+}
+
+// SHA-1 of a text.
+fn tell_sha1(a: &[u8]) {
+    let d = sha1::sha1(a);
+    let octets = d.octets;
+    tell(d.answer, &octets, &[]);
+}
+
+// SHA-256 of a text.
+fn tell_sha256(a: &[u8]) {
+    let d = sha256::sha256(a);
+    let octets = d.octets;
+    tell(d.answer, &octets, &[]);
+}
+
+// HMAC over SHA-256 of a key and a text.
+fn tell_hmac(a: &[u8], b: &[u8]) {
+    let d = sha256::hmac_sha256(a, b);
+    let octets = d.octets;
+    tell(d.answer, &octets, &[]);
+}
+
+// DES of a key and a block.
+fn tell_des(a: &[u8], b: &[u8]) {
+    let d = des::encrypt(a, b);
+    let octets = d.octets;
+    tell(d.answer, &octets, &[]);
+}
+
+// An RC4 key's state.
+fn tell_keyed(a: &[u8]) {
+    let k = Rc4::keyed(a);
+    let state = k.state;
+    let fields = state_fields(state);
+    tell(k.answer, &fields, &[]);
+}
+
+// An RC4 run from a state: the state after it, and the lent buffer.
+fn tell_run(s: Rc4, text: &[u8], lent: &mut [u8]) {
+    let ran = s.run(text, lent);
+    let state = ran.state;
+    let fields = state_fields(state);
+    tell(ran.answer, &fields, lent);
+}
+
+// A draw by value: the state after it, and the octet in the lent buffer's place.
+fn tell_draw(s: Rc4) {
+    let drawn = s.draw();
+    let state = drawn.state;
+    let fields = state_fields(state);
+    let octet = drawn.octet;
+    tell(0, &fields, &[octet]);
+}
+
+// The state of a case: its first input as the box, with zeros behind a short one, and two numbers as the indices.
+fn state(n: Numbers, a: &[u8]) -> Rc4 {
+    let mut cells = [0u8; 256];
+    octets::copy(a, &mut cells);
+    Rc4 {
+        cells,
+        i: low(n.x),
+        j: low(n.y),
+    }
+}
+
+// A state's octets: the box and both indices.
+fn state_fields(state: Rc4) -> [u8; 258] {
+    let mut fields = [0u8; 258];
+    let cells = state.cells;
+    octets::copy(&cells, &mut fields);
+    fields[256] = state.i;
+    fields[257] = state.j;
+    fields
+}

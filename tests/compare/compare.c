@@ -1,0 +1,595 @@
+/* The large comparison of the calls that the C host does not export: cases from a seed, answered by the oracle and, through pipes, by
+   the program crates/cases. Arguments: that program, the seed, and how many cases for each call. */
+#include "making.h"
+
+#include <signal.h>
+#include <stdlib.h>
+#include <string.h>
+#include <sys/wait.h>
+#include <unistd.h>
+
+/* The calls' numbers in crates/cases. */
+enum {
+    MD4, SHA1, SHA256, HMAC_SHA256, DES, RC4_KEYED, RC4_RUN, RC4_DRAW,
+    PASSWORD_HASH = 16, HASH_HASH, HASH_CHALLENGE, CHALLENGE_RESPONSE,
+    READ_CHALLENGE = 32, READ_RESPONSE, NAME, WRITE_CHALLENGE, WRITE_RESPONSE, READ_OPTION, WRITE_OPTION,
+    MASTER_KEY = 48, START_KEY, NEW_KEY, INITIAL_SESSION_KEY, REDUCE, KEY_CHANGE, KEY_CHANGES, MAKE_BASE_KEY
+};
+
+enum { CASE_INPUTS = 3, CASE_HEAD = 19, ANSWER_HEAD = 6, MANY_CHANGES = 5000 };
+
+/* The pipes to the program and from it. */
+static int to_program, from_program;
+
+/* Ends the comparison where the program cannot be run or stops. */
+static void stop(const char *what)
+{
+    printf("the program of cases: %s\n", what);
+    exit(1);
+}
+
+/* Starts the program. */
+static void start(const char *path)
+{
+    int down[2], up[2];
+
+    signal(SIGPIPE, SIG_IGN);
+    if (pipe(down) != 0 || pipe(up) != 0)
+        stop("no pipes");
+    switch (fork()) {
+    case -1:
+        stop("not started");
+        break;
+    case 0:
+        dup2(down[0], STDIN_FILENO);
+        dup2(up[1], STDOUT_FILENO);
+        close(down[1]);
+        close(up[0]);
+        execl(path, path, (char *)NULL);
+        _exit(127);
+    }
+    close(down[0]);
+    close(up[1]);
+    to_program = down[1];
+    from_program = up[0];
+}
+
+/* Ends its input: it must end too, and have said nothing more. */
+static void finish(void)
+{
+    octet more;
+    int status;
+
+    close(to_program);
+    if (read(from_program, &more, 1) != 0 || wait(&status) < 0 || status != 0)
+        stop("it does not end as it should");
+}
+
+/* Writes octets to the program. */
+static void put(const octet *at, size_t n)
+{
+    while (n > 0) {
+        ssize_t done = write(to_program, at, n);
+
+        if (done <= 0)
+            stop("it takes no more");
+        at += done;
+        n -= (size_t)done;
+    }
+}
+
+/* Reads octets from it. */
+static void get(octet *at, size_t n)
+{
+    while (n > 0) {
+        ssize_t done = read(from_program, at, n);
+
+        if (done <= 0)
+            stop("it gives no more");
+        at += done;
+        n -= (size_t)done;
+    }
+}
+
+/* A number into n octets, highest first. */
+static octet *put_number(octet *at, size_t value, int n)
+{
+    for (int k = n; k > 0; k--, value >>= 8)
+        at[k - 1] = (octet)value;
+    return at + n;
+}
+
+/* A number from n octets. */
+static size_t get_number(const octet *at, int n)
+{
+    size_t value = 0;
+
+    for (int k = 0; k < n; k++)
+        value = value << 8 | at[k];
+    return value;
+}
+
+/* Reads octets of a length into a list. */
+static void get_octets(octets *o, size_t n)
+{
+    if (n > MOST)
+        stop("an answer too long");
+    o->n = n;
+    get(o->at, n);
+}
+
+/* Hands a case to the program and takes its answer. */
+static void ask(const test *t, answer *a)
+{
+    octet head[CASE_HEAD] = {(octet)t->call}, *at = head + 1;
+    octet told[ANSWER_HEAD];
+
+    at = put_number(at, t->x, 2);
+    at = put_number(at, t->y, 2);
+    at = put_number(at, t->z, 2);
+    for (int k = 0; k < CASE_INPUTS; k++)
+        at = put_number(at, t->in[k].n, 3);
+    put_number(at, t->lent[0].n, 3);
+    put(head, CASE_HEAD);
+    for (int k = 0; k < CASE_INPUTS; k++)
+        put(t->in[k].at, t->in[k].n);
+    put(t->lent[0].at, t->lent[0].n);
+    get(told, ANSWER_HEAD);
+    a->number = told[5];
+    get_octets(&a->fields, get_number(told, 2));
+    get_octets(&a->lent[0], get_number(told + 2, 3));
+}
+
+/* A text. */
+static void make_one_text(test *t)
+{
+    make_text(&t->in[0]);
+}
+
+/* A key and a text. */
+static void make_hmac(test *t)
+{
+    make_text(&t->in[0]);
+    make_text(&t->in[1]);
+}
+
+/* MD4. */
+static void expect_md4(const test *t, answer *a)
+{
+    a->number = oracle_md4(in(t, 0), field(a, 16));
+}
+
+/* SHA-1. */
+static void expect_sha1(const test *t, answer *a)
+{
+    a->number = oracle_sha1(in(t, 0), field(a, 20));
+}
+
+/* SHA-256. */
+static void expect_sha256(const test *t, answer *a)
+{
+    a->number = oracle_sha256(in(t, 0), field(a, 32));
+}
+
+/* HMAC. */
+static void expect_hmac(const test *t, answer *a)
+{
+    a->number = oracle_hmac(in(t, 0), in(t, 1), field(a, 32));
+}
+
+/* A DES key and a block. */
+static void make_des(test *t)
+{
+    fill(&t->in[0], about(DES_KEY));
+    fill(&t->in[1], about(DES_BLOCK));
+}
+
+/* DES. */
+static void expect_des(const test *t, answer *a)
+{
+    a->number = oracle_des(in(t, 0), in(t, 1), field(a, DES_BLOCK));
+}
+
+/* An RC4 key. */
+static void make_keyed(test *t)
+{
+    fill(&t->in[0], within(1, LONGEST_RC4_KEY));
+}
+
+/* Its state. */
+static void expect_keyed(const test *t, answer *a)
+{
+    a->number = oracle_rc4_keyed(in(t, 0), field(a, RC4_STATE));
+}
+
+/* A box: of a key, or of any octets; and two indices. */
+static void make_state(test *t)
+{
+    octet state[RC4_STATE];
+
+    fill(&t->in[0], 256);
+    if (!one_in(3)) {
+        oracle_rc4_keyed(in(t, 0), state);
+        memcpy(t->in[0].at, state, 256);
+    }
+    t->x = one_in(2) ? 0 : (unsigned)below(256);
+    t->y = one_in(2) ? 0 : (unsigned)below(256);
+}
+
+/* A state, a text and room for the result. */
+static void make_run(test *t)
+{
+    make_state(t);
+    make_text(&t->in[1]);
+    make_room(&t->lent[0], t->in[1].n);
+}
+
+/* A case's state, as an answer's fields. */
+static octet *state_of(const test *t, answer *a)
+{
+    octet *state = field(a, RC4_STATE);
+
+    memcpy(state, t->in[0].at, 256);
+    state[256] = (octet)t->x;
+    state[257] = (octet)t->y;
+    return state;
+}
+
+/* The state after the run, and the buffer. */
+static void expect_run(const test *t, answer *a)
+{
+    a->number = oracle_rc4_run(state_of(t, a), in(t, 1), lent(a, 0));
+}
+
+/* The state after the draw; the octet comes in the lent buffer's place. */
+static void expect_draw(const test *t, answer *a)
+{
+    a->lent[0].n = 1;
+    a->lent[0].at[0] = oracle_rc4_draw(state_of(t, a));
+}
+
+/* A password. */
+static void make_one_password(test *t)
+{
+    make_password(&t->in[0]);
+}
+
+/* Its hash. */
+static void expect_password_hash(const test *t, answer *a)
+{
+    a->number = oracle_password_hash(in(t, 0), field(a, HASH));
+}
+
+/* A hash. */
+static void make_hash(test *t)
+{
+    fill(&t->in[0], about(HASH));
+}
+
+/* Its hash. */
+static void expect_hash_hash(const test *t, answer *a)
+{
+    a->number = oracle_hash_hash(in(t, 0), field(a, HASH));
+}
+
+/* Peer challenge, authenticator challenge and name. */
+static void make_challenge_hash(test *t)
+{
+    fill(&t->in[0], about(CHALLENGE));
+    fill(&t->in[1], about(CHALLENGE));
+    make_name(&t->in[2]);
+}
+
+/* Their hash. */
+static void expect_challenge_hash(const test *t, answer *a)
+{
+    a->number = oracle_challenge_hash(in(t, 0), in(t, 1), in(t, 2), field(a, CHALLENGE_HASH));
+}
+
+/* A challenge hash and a password hash. */
+static void make_challenge_response(test *t)
+{
+    fill(&t->in[0], about(CHALLENGE_HASH));
+    fill(&t->in[1], about(HASH));
+}
+
+/* The response. */
+static void expect_challenge_response(const test *t, answer *a)
+{
+    a->number = oracle_challenge_response(in(t, 0), in(t, 1), field(a, NT_RESPONSE));
+}
+
+/* The least length of a packet of a kind: 0 is a Challenge, 1 a Response. */
+static size_t least_length(unsigned kind)
+{
+    return kind == 0 ? LEAST_CHALLENGE : LEAST_RESPONSE;
+}
+
+/* A right packet with a name and padding behind it, into the first input. */
+static void make_right_packet(unsigned kind, octets *o)
+{
+    size_t named = least_length(kind) + (one_in(6) ? LONGEST_NAME + below(400) : within(0, LONGEST_NAME));
+
+    fill(o, one_in(20) ? within(named, MOST - 1) : named + (one_in(3) ? below(50) : 0));
+    o->at[0] = (octet)(kind + 1);
+    put_number(o->at + 2, named, 2);
+    o->at[4] = (octet)(least_length(kind) - 5);
+    if (kind == 1) {
+        memset(o->at + 21, 0, 8);
+        o->at[53] = 0;
+    }
+}
+
+/* One damage to a packet: a field of its header, its length, a reserved octet, any octet, or its end cut off. */
+static void damage_packet(unsigned kind, octets *o)
+{
+    switch (below(6)) {
+    case 0:
+        o->at[one_in(2) ? 0 : 4] = (octet)below(60);
+        break;
+    case 1:
+        put_number(o->at + 2, o->n + below(4) - 2, 2);
+        break;
+    case 2:
+        put_number(o->at + 2, one_in(2) ? below(65536) : least_length(kind) + below(4) - 2, 2);
+        break;
+    case 3:
+        o->at[one_in(2) ? 53 : 21 + below(8)] = (octet)below(256);
+        break;
+    case 4:
+        o->at[below(o->n)] ^= (octet)(1 << below(8));
+        break;
+    default:
+        o->n = one_in(2) ? below(o->n) : least_length(kind) - below(3);
+    }
+}
+
+/* A packet of a kind, damaged in none, one or several ways. */
+static void make_packet(unsigned kind, octets *o)
+{
+    make_right_packet(kind, o);
+    for (bool more = one_in(2); more && o->n > 60; more = one_in(3))
+        damage_packet(kind, o);
+    if (one_in(30))
+        fill(o, below(100));
+}
+
+/* A Challenge, or now and then a Response in its place. */
+static void make_challenge(test *t)
+{
+    make_packet(one_in(20), &t->in[0]);
+}
+
+/* A Response, or now and then a Challenge in its place. */
+static void make_response(test *t)
+{
+    make_packet(!one_in(20), &t->in[0]);
+}
+
+/* A packet of a kind, or now and then of the other. */
+static void make_named(test *t)
+{
+    t->x = (unsigned)below(2);
+    make_packet(one_in(20) ? 1 - t->x : t->x, &t->in[0]);
+}
+
+/* Identifier and value. */
+static void expect_read_challenge(const test *t, answer *a)
+{
+    octet *identifier = field(a, 1), *value = field(a, CHALLENGE);
+
+    a->number = oracle_read_challenge(in(t, 0), identifier, value);
+}
+
+/* Identifier, peer challenge and NT-Response. */
+static void expect_read_response(const test *t, answer *a)
+{
+    octet *identifier = field(a, 1), *peer = field(a, CHALLENGE), *response = field(a, NT_RESPONSE);
+
+    a->number = oracle_read_response(in(t, 0), identifier, peer, response);
+}
+
+/* The name. */
+static void expect_name(const test *t, answer *a)
+{
+    part name = oracle_name(t->x == 0 ? 1 : 2, in(t, 0));
+
+    memcpy(field(a, name.n), name.at, name.n);
+}
+
+/* Identifier, challenge, name and room. */
+static void make_write_challenge(test *t)
+{
+    t->x = (unsigned)below(256);
+    fill(&t->in[0], about(CHALLENGE));
+    make_name(&t->in[1]);
+    make_room(&t->lent[0], LEAST_CHALLENGE + t->in[1].n);
+}
+
+/* The Challenge. */
+static void expect_write_challenge(const test *t, answer *a)
+{
+    a->number = oracle_write_challenge((octet)t->x, in(t, 0), in(t, 1), lent(a, 0));
+}
+
+/* Identifier, peer challenge, NT-Response, name and room. */
+static void make_write_response(test *t)
+{
+    t->x = (unsigned)below(256);
+    fill(&t->in[0], about(CHALLENGE));
+    fill(&t->in[1], about(NT_RESPONSE));
+    make_name(&t->in[2]);
+    make_room(&t->lent[0], LEAST_RESPONSE + t->in[2].n);
+}
+
+/* The Response. */
+static void expect_write_response(const test *t, answer *a)
+{
+    a->number = oracle_write_response((octet)t->x, in(t, 0), in(t, 1), in(t, 2), lent(a, 0));
+}
+
+/* An option. */
+static void make_one_option(test *t)
+{
+    make_option(&t->in[0]);
+}
+
+/* Its mode and strengths. */
+static void expect_read_option(const test *t, answer *a)
+{
+    offer read;
+
+    a->number = oracle_read_option(in(t, 0), &read);
+    *field(a, 1) = read.stateless;
+    *field(a, 1) = read.bits40;
+    *field(a, 1) = read.bits56;
+    *field(a, 1) = read.bits128;
+}
+
+/* A mode, a set of strengths and room. */
+static void make_write_option(test *t)
+{
+    t->x = (unsigned)below(2);
+    t->y = (unsigned)below(8);
+    make_room(&t->lent[0], OPTION);
+}
+
+/* The option. */
+static void expect_write_option(const test *t, answer *a)
+{
+    offer offered = {t->x == 1, t->y & 1, t->y >> 1 & 1, t->y >> 2 & 1};
+
+    a->number = oracle_write_option(offered, lent(a, 0));
+}
+
+/* A hash-hash and an NT-Response. Of the keys' cases, x is the strength, y the role or the number of changes, z the direction. */
+static void make_master_key(test *t)
+{
+    fill(&t->in[0], about(HASH));
+    fill(&t->in[1], about(NT_RESPONSE));
+}
+
+/* Strength, role, direction and a master key. */
+static void make_start_key(test *t)
+{
+    t->x = (unsigned)below(3);
+    t->y = (unsigned)below(2);
+    t->z = (unsigned)below(2);
+    fill(&t->in[0], about(KEY_PLACES));
+}
+
+/* A strength, a start key and a session key. */
+static void make_two_keys(test *t)
+{
+    t->x = (unsigned)below(3);
+    make_key(&t->in[0], strength_bits(t->x));
+    make_key(&t->in[1], strength_bits(t->x));
+}
+
+/* The same, and a number of changes. */
+static void make_key_changes(test *t)
+{
+    make_two_keys(t);
+    t->y = (unsigned)(one_in(100) ? below(MANY_CHANGES) : below(40));
+}
+
+/* A role, a send and a receive start key. */
+static void make_base_key(test *t)
+{
+    t->y = (unsigned)below(2);
+    fill(&t->in[0], about(KEY_PLACES));
+    fill(&t->in[1], about(KEY_PLACES));
+}
+
+/* The master key. */
+static void expect_master_key(const test *t, answer *a)
+{
+    a->number = oracle_master_key(in(t, 0), in(t, 1), field(a, KEY_PLACES));
+}
+
+/* The start key. */
+static void expect_start_key(const test *t, answer *a)
+{
+    a->number = oracle_start_key(strength_bits(t->x), t->y == 1, t->z == 0, in(t, 0), field(a, KEY_PLACES));
+}
+
+/* The new key. */
+static void expect_new_key(const test *t, answer *a)
+{
+    a->number = oracle_new_key(strength_bits(t->x), in(t, 0), in(t, 1), field(a, KEY_PLACES));
+}
+
+/* The initial session key of the start key. */
+static void expect_initial_session_key(const test *t, answer *a)
+{
+    a->number = oracle_initial_session_key(strength_bits(t->x), in(t, 0), field(a, KEY_PLACES));
+}
+
+/* The start key, reduced. */
+static void expect_reduce(const test *t, answer *a)
+{
+    a->number = oracle_reduce(strength_bits(t->x), in(t, 0), field(a, KEY_PLACES));
+}
+
+/* The session key after one change. */
+static void expect_key_change(const test *t, answer *a)
+{
+    a->number = oracle_key_changes(strength_bits(t->x), in(t, 0), in(t, 1), 1, field(a, KEY_PLACES));
+}
+
+/* The session key after the changes. */
+static void expect_key_changes(const test *t, answer *a)
+{
+    a->number = oracle_key_changes(strength_bits(t->x), in(t, 0), in(t, 1), t->y, field(a, KEY_PLACES));
+}
+
+/* The base key. */
+static void expect_base_key(const test *t, answer *a)
+{
+    a->number = oracle_base_key(t->y == 1, in(t, 0), in(t, 1), field(a, BASE_KEY));
+}
+
+static const call calls[] = {
+    {"md4", MD4, make_one_text, expect_md4, ask},
+    {"sha1", SHA1, make_one_text, expect_sha1, ask},
+    {"sha256", SHA256, make_one_text, expect_sha256, ask},
+    {"hmac_sha256", HMAC_SHA256, make_hmac, expect_hmac, ask},
+    {"des::encrypt", DES, make_des, expect_des, ask},
+    {"Rc4::keyed", RC4_KEYED, make_keyed, expect_keyed, ask},
+    {"Rc4::run", RC4_RUN, make_run, expect_run, ask},
+    {"Rc4::draw", RC4_DRAW, make_state, expect_draw, ask},
+    {"password_hash", PASSWORD_HASH, make_one_password, expect_password_hash, ask},
+    {"hash_hash", HASH_HASH, make_hash, expect_hash_hash, ask},
+    {"challenge_hash", HASH_CHALLENGE, make_challenge_hash, expect_challenge_hash, ask},
+    {"challenge_response", CHALLENGE_RESPONSE, make_challenge_response, expect_challenge_response, ask},
+    {"read_challenge", READ_CHALLENGE, make_challenge, expect_read_challenge, ask},
+    {"read_response", READ_RESPONSE, make_response, expect_read_response, ask},
+    {"name", NAME, make_named, expect_name, ask},
+    {"write_challenge", WRITE_CHALLENGE, make_write_challenge, expect_write_challenge, ask},
+    {"write_response", WRITE_RESPONSE, make_write_response, expect_write_response, ask},
+    {"ccp::read", READ_OPTION, make_one_option, expect_read_option, ask},
+    {"ccp::write", WRITE_OPTION, make_write_option, expect_write_option, ask},
+    {"master_key", MASTER_KEY, make_master_key, expect_master_key, ask},
+    {"start_key", START_KEY, make_start_key, expect_start_key, ask},
+    {"new_key", NEW_KEY, make_two_keys, expect_new_key, ask},
+    {"initial_session_key", INITIAL_SESSION_KEY, make_two_keys, expect_initial_session_key, ask},
+    {"reduce", REDUCE, make_two_keys, expect_reduce, ask},
+    {"key_change", KEY_CHANGE, make_two_keys, expect_key_change, ask},
+    {"key_changes", KEY_CHANGES, make_key_changes, expect_key_changes, ask},
+    {"base_key", MAKE_BASE_KEY, make_base_key, expect_base_key, ask},
+};
+
+/* Compares every call. */
+int main(int count, char **words)
+{
+    unsigned long seed, cases, total;
+
+    if (count != 4)
+        return 2;
+    read_arguments(count, words, &seed, &cases);
+    start(words[1]);
+    total = compare_calls(calls, sizeof calls / sizeof calls[0], seed, cases);
+    finish();
+    printf("%lu cases, all equal\n", total);
+    return 0;
+}

@@ -1,0 +1,642 @@
+/* The large comparison of the calls that a C host makes: cases from a seed, answered by the oracle and by the library through
+   include/udukemb.h; then whole runs of a link, with losses, repeats and damage between sender and receiver (demand 3).
+   Arguments: the seed, and how many cases for each call. */
+#include "making.h"
+#include "udukemb.h"
+
+#include <stdlib.h>
+#include <string.h>
+
+enum { COUNTS = 4096, MOST_LOST = 4094, AT_START = 1, AT_SESSION = 17, AT_COUNT = 33 };
+
+/* An input as two arguments: a part of length 0 has a null pointer. */
+#define IN(k) (t->in[k].n > 0 ? t->in[k].at : NULL), t->in[k].n
+
+/* A lent buffer as two arguments. */
+#define LENT_AT(k) (a->lent[k].n > 0 ? a->lent[k].at : NULL), a->lent[k].n
+
+/* Writes a result's octets into the first lent buffer, where the number is 0 and there is room: "2" comes last. */
+static void hand_over(answer *a, int number, const octet *at, size_t n)
+{
+    a->number = number == DONE && a->lent[0].n < n ? ROOM : number;
+    if (a->number == DONE)
+        memcpy(a->lent[0].at, at, n);
+}
+
+/* A check's answer: a length that is wrong, then the number of what is worked out, then yes or no. */
+static void checked(answer *a, int number, part received, const octet *own, size_t n)
+{
+    a->number = received.n != n ? SIZE : number;
+    *field(a, 1) = a->number == DONE && memcmp(own, received.at, n) == 0;
+}
+
+/* What was received: the right octets, damaged in one bit now and then, or of another length. */
+static void make_received(octets *o, int number, const octet *own, size_t n)
+{
+    fill(o, about(n));
+    if (number == DONE && o->n == n && !one_in(20))
+        memcpy(o->at, own, n);
+    if (o->n > 0 && one_in(4))
+        o->at[below(o->n)] ^= (octet)(1 << below(8));
+}
+
+/* A login from the authenticator's side: authenticator challenge, peer challenge, name, password. */
+static void make_login(test *t)
+{
+    fill(&t->in[0], about(CHALLENGE));
+    fill(&t->in[1], about(CHALLENGE));
+    make_name(&t->in[2]);
+    make_password(&t->in[3]);
+    make_room(&t->lent[0], NT_RESPONSE);
+}
+
+/* The NT-Response. */
+static void expect_nt_response(const test *t, answer *a)
+{
+    octet out[NT_RESPONSE];
+
+    hand_over(a, oracle_nt_response(in(t, 0), in(t, 1), in(t, 2), in(t, 3), out), out, sizeof out);
+}
+
+/* The same by the library. */
+static void give_nt_response(const test *t, answer *a)
+{
+    a->number = udukemb_nt_response(IN(0), IN(1), IN(2), IN(3), LENT_AT(0));
+}
+
+/* A login and what was received. */
+static void make_check_response(test *t)
+{
+    octet own[NT_RESPONSE];
+    int number;
+
+    make_login(t);
+    number = oracle_nt_response(in(t, 0), in(t, 1), in(t, 2), in(t, 3), own);
+    make_received(&t->in[4], number, own, sizeof own);
+}
+
+/* Whether it is the NT-Response. */
+static void expect_check_response(const test *t, answer *a)
+{
+    octet own[NT_RESPONSE];
+
+    checked(a, oracle_nt_response(in(t, 0), in(t, 1), in(t, 2), in(t, 3), own), in(t, 4), own, sizeof own);
+}
+
+/* A check of the library as an answer. */
+static void gave_check(answer *a, struct udukemb_check check)
+{
+    a->number = check.answer;
+    *field(a, 1) = check.yes;
+}
+
+/* The same by the library. */
+static void give_check_response(const test *t, answer *a)
+{
+    gave_check(a, udukemb_check_response(IN(0), IN(1), IN(2), IN(3), IN(4)));
+}
+
+/* The peer's side: password, NT-Response, peer challenge, authenticator challenge, name. */
+static void make_proof(test *t)
+{
+    make_password(&t->in[0]);
+    fill(&t->in[1], about(NT_RESPONSE));
+    fill(&t->in[2], about(CHALLENGE));
+    fill(&t->in[3], about(CHALLENGE));
+    make_name(&t->in[4]);
+    make_room(&t->lent[0], AUTHENTICATOR_STRING);
+}
+
+/* The authenticator string of a case. */
+static int string_of(const test *t, octet out[AUTHENTICATOR_STRING])
+{
+    return oracle_authenticator_string(in(t, 0), in(t, 1), in(t, 2), in(t, 3), in(t, 4), out);
+}
+
+/* The authenticator string. */
+static void expect_authenticator_string(const test *t, answer *a)
+{
+    octet out[AUTHENTICATOR_STRING];
+
+    hand_over(a, string_of(t, out), out, sizeof out);
+}
+
+/* The same by the library. */
+static void give_authenticator_string(const test *t, answer *a)
+{
+    a->number = udukemb_authenticator_string(IN(0), IN(1), IN(2), IN(3), IN(4), LENT_AT(0));
+}
+
+/* A proof and what was received. */
+static void make_check_authenticator(test *t)
+{
+    octet own[AUTHENTICATOR_STRING];
+    int number;
+
+    make_proof(t);
+    number = string_of(t, own);
+    make_received(&t->in[5], number, own, sizeof own);
+}
+
+/* Whether it is the string. */
+static void expect_check_authenticator(const test *t, answer *a)
+{
+    octet own[AUTHENTICATOR_STRING];
+
+    checked(a, string_of(t, own), in(t, 5), own, sizeof own);
+}
+
+/* The same by the library. */
+static void give_check_authenticator(const test *t, answer *a)
+{
+    gave_check(a, udukemb_check_authenticator(IN(0), IN(1), IN(2), IN(3), IN(4), IN(5)));
+}
+
+/* A number for a strength in bits, also one that is none. */
+static unsigned make_bits(void)
+{
+    return one_in(12) ? (unsigned)below(256) : strength_bits((unsigned)below(3));
+}
+
+/* Whether it is one. */
+static bool is_strength(unsigned bits)
+{
+    return bits == 40 || bits == 56 || bits == 128;
+}
+
+/* Strength, role, direction, password, NT-Response and room. */
+static void make_start_key(test *t)
+{
+    t->x = make_bits();
+    t->y = (unsigned)below(2);
+    t->z = (unsigned)below(2);
+    make_password(&t->in[0]);
+    fill(&t->in[1], about(NT_RESPONSE));
+    make_room(&t->lent[0], key_length(t->x));
+}
+
+/* The start key by way of hash, hash-hash and master key: "8, 3, 2". */
+static void expect_start_key(const test *t, answer *a)
+{
+    octet hash[HASH], twice[HASH], master[KEY_PLACES], out[KEY_PLACES];
+    part p = {hash, HASH};
+    int number = oracle_password_hash(in(t, 0), hash);
+
+    oracle_hash_hash(p, twice);
+    p.at = twice;
+    if (number == DONE)
+        number = oracle_master_key(p, in(t, 1), master);
+    p.at = master;
+    if (number == DONE)
+        number = oracle_start_key(t->x, t->y == 1, t->z == 1, p, out);
+    hand_over(a, is_strength(t->x) ? number : STRENGTH, out, key_length(t->x));
+}
+
+/* The same by the library. */
+static void give_start_key(const test *t, answer *a)
+{
+    a->number = udukemb_start_key((uint8_t)t->x, t->y == 1, t->z == 1, IN(0), IN(1), LENT_AT(0));
+}
+
+/* A role, a send and a receive start key, and room. */
+static void make_base_key(test *t)
+{
+    t->y = (unsigned)below(2);
+    fill(&t->in[0], about(KEY_PLACES));
+    fill(&t->in[1], about(KEY_PLACES));
+    make_room(&t->lent[0], BASE_KEY);
+}
+
+/* The base key. */
+static void expect_base_key(const test *t, answer *a)
+{
+    octet out[BASE_KEY];
+
+    hand_over(a, oracle_base_key(t->y == 1, in(t, 0), in(t, 1), out), out, sizeof out);
+}
+
+/* The same by the library. */
+static void give_base_key(const test *t, answer *a)
+{
+    a->number = udukemb_base_key(t->y == 1, IN(0), IN(1), LENT_AT(0));
+}
+
+/* Key material, mostly of about 32 octets, and room. */
+static void make_binding_key(test *t)
+{
+    if (one_in(3))
+        make_text(&t->in[0]);
+    else
+        fill(&t->in[0], about(BASE_KEY));
+    make_room(&t->lent[0], BINDING_KEY);
+}
+
+/* The binding key. */
+static void expect_binding_key(const test *t, answer *a)
+{
+    octet out[BINDING_KEY];
+
+    hand_over(a, oracle_binding_key(in(t, 0), out), out, sizeof out);
+}
+
+/* The same by the library. */
+static void give_binding_key(const test *t, answer *a)
+{
+    a->number = udukemb_binding_key(IN(0), LENT_AT(0));
+}
+
+/* A request, a set of allowed strengths and room. */
+static void make_option_reply(test *t)
+{
+    make_option(&t->in[0]);
+    t->x = (unsigned)below(8);
+    make_room(&t->lent[0], OPTION);
+}
+
+/* A reply as an answer. */
+static void replied(answer *a, int number, bool accept, octet bits)
+{
+    a->number = number;
+    *field(a, 1) = accept;
+    *field(a, 1) = bits;
+}
+
+/* The reply. */
+static void expect_option_reply(const test *t, answer *a)
+{
+    offer allowed = {.bits40 = t->x & 1, .bits56 = t->x >> 1 & 1, .bits128 = t->x >> 2 & 1};
+    reply r = oracle_option_reply(in(t, 0), allowed, lent(a, 0));
+
+    replied(a, r.number, r.accept, r.bits);
+}
+
+/* The same by the library. */
+static void give_option_reply(const test *t, answer *a)
+{
+    struct udukemb_reply r = udukemb_option_reply(IN(0), t->x & 1, t->x >> 1 & 1, t->x >> 2 & 1, LENT_AT(0));
+
+    replied(a, r.answer, r.accept, r.bits);
+}
+
+/* A strength, a start key and room. */
+static void make_new_link(test *t)
+{
+    t->x = make_bits();
+    make_key(&t->in[0], t->x);
+    make_room(&t->lent[0], RECORD_OCTETS);
+}
+
+/* The new link. */
+static void expect_new_link(const test *t, answer *a)
+{
+    a->number = oracle_new_link((octet)t->x, in(t, 0), lent(a, 0));
+}
+
+/* The same by the library. */
+static void give_new_link(const test *t, answer *a)
+{
+    a->number = udukemb_new_link((uint8_t)t->x, IN(0), LENT_AT(0));
+}
+
+/* Octets as a buffer. */
+static buffer whole(octets *o)
+{
+    buffer b = {o->at, o->n};
+
+    return b;
+}
+
+/* Octets as an input. */
+static part part_of(const octets *o)
+{
+    part p = {o->at, o->n};
+
+    return p;
+}
+
+/* Sets a record's count. */
+static void set_count(octets *record, size_t count)
+{
+    record->at[AT_COUNT] = (octet)(count / 256);
+    record->at[AT_COUNT + 1] = (octet)(count % 256);
+}
+
+/* A record's count. */
+static unsigned count_of(const octets *record)
+{
+    return 256u * record->at[AT_COUNT] + record->at[AT_COUNT + 1];
+}
+
+/* The record of a new link. */
+static void make_begin(octets *record)
+{
+    static octets start;
+    unsigned bits = strength_bits((unsigned)below(3));
+
+    fill(&start, key_length(bits));
+    fill(record, RECORD_OCTETS);
+    oracle_new_link((octet)bits, part_of(&start), whole(record));
+}
+
+/* A record, well formed but hand-made: any session key that reduce leaves, any count, often near the wrap. */
+static void make_right_record(octets *record)
+{
+    octet session[KEY_PLACES];
+    unsigned bits;
+
+    make_begin(record);
+    bits = record->at[0];
+    for (size_t k = 0; k < key_length(bits); k++)
+        record->at[AT_SESSION + k] = (octet)below(256);
+    part key = {record->at + AT_SESSION, key_length(bits)};
+    oracle_reduce(bits, key, session);
+    memcpy(record->at + AT_SESSION, session, KEY_PLACES);
+    set_count(record, one_in(3) ? (COUNTS - 3 + below(6)) % COUNTS : below(COUNTS));
+}
+
+/* One damage to a record: strength, places behind a key, the session key's front, count, length, or all of it. */
+static void damage_record(octets *record)
+{
+    switch (below(6)) {
+    case 0:
+        record->at[0] = (octet)make_bits();
+        break;
+    case 1:
+        record->at[AT_START + (one_in(2) ? 8 : 24) + below(8)] = (octet)below(3);
+        break;
+    case 2:
+        record->at[AT_SESSION + below(3)] ^= (octet)(1 << below(8));
+        break;
+    case 3:
+        set_count(record, one_in(2) ? COUNTS - 1 + below(3) : below(65536));
+        break;
+    case 4:
+        record->n = one_in(2) ? below(80) : one_in(2) ? RECORD_OCTETS - 1 : RECORD_OCTETS + 1;
+        break;
+    default:
+        fill(record, RECORD_OCTETS);
+        record->at[0] = (octet)strength_bits((unsigned)below(3));
+    }
+}
+
+/* A plain packet: its protocol number mostly one that is carried, often at the limits. */
+static void make_plain(octets *plain)
+{
+    static const octet edges[] = {0x20, 0x21, 0xFA, 0xFB};
+
+    fill(plain, within(SHORTEST_PLAIN, LONGEST_PLAIN));
+    if (plain->n < SHORTEST_PLAIN)
+        return;
+    plain->at[0] = one_in(20) ? (octet)below(3) : 0;
+    plain->at[1] = one_in(6) ? edges[below(4)] : one_in(20) ? (octet)below(256) : (octet)(0x21 + below(0xDA));
+}
+
+/* Seal: the record is the first lent buffer, the packet goes into the second. */
+static void make_seal(test *t)
+{
+    make_right_record(&t->lent[0]);
+    if (one_in(6))
+        damage_record(&t->lent[0]);
+    make_plain(&t->in[0]);
+    make_room(&t->lent[1], FRONT + t->in[0].n);
+}
+
+/* The packet and the next record. */
+static void expect_seal(const test *t, answer *a)
+{
+    a->number = oracle_seal(lent(a, 0), in(t, 0), lent(a, 1));
+}
+
+/* The same by the library. */
+static void give_seal(const test *t, answer *a)
+{
+    a->number = udukemb_seal(LENT_AT(0), IN(0), LENT_AT(1));
+}
+
+/* The packet that a record's sender seals a distance after it. */
+static void make_sealed(const octets *record, unsigned distance, octets *packet)
+{
+    static octets sender, plain;
+    size_t n = key_length(record->at[0]);
+    part start = {sender.at + AT_START, n}, session = {record->at + AT_SESSION, n};
+    octet key[KEY_PLACES];
+
+    copy(&sender, record);
+    oracle_key_changes(record->at[0], start, session, distance - 1, key);
+    memcpy(sender.at + AT_SESSION, key, KEY_PLACES);
+    set_count(&sender, (count_of(record) + distance - 1) % COUNTS);
+    make_plain(&plain);
+    fill(packet, FRONT + plain.n);
+    oracle_seal(whole(&sender), part_of(&plain), whole(packet));
+}
+
+/* One damage to a packet: its first octets, its flags, its count, an octet of its data, its protocol number, or its length. */
+static void damage_packet(const octets *record, octets *packet)
+{
+    switch (below(7)) {
+    case 0:
+        packet->at[below(2)] ^= (octet)(1 << below(8));
+        break;
+    case 1:
+        packet->at[2] ^= (octet)(0x10 << below(4));
+        break;
+    case 2:
+        packet->at[2] = (octet)((packet->at[2] & 0xF0) | (count_of(record) / 256 % 16));
+        packet->at[3] = (octet)count_of(record);
+        break;
+    case 3:
+        packet->at[below(packet->n)] ^= (octet)(1 << below(8));
+        break;
+    case 4:
+        packet->at[FRONT + below(2)] ^= (octet)(1 << below(8));
+        break;
+    case 5:
+        packet->n = below(9);
+        break;
+    default:
+        fill(packet, one_in(2) ? FRONT + LONGEST_PLAIN + below(3) : below(40));
+        memcpy(packet->at, "\x00\xFD\x90\x00", FRONT);
+    }
+}
+
+/* A packet for a record, damaged in none, one or several ways. */
+static void make_packet(const octets *record, octets *packet)
+{
+    unsigned distance = 1 + (unsigned)(one_in(60) ? below(COUNTS - 1) : one_in(3) ? below(20) : 0);
+
+    make_sealed(record, distance, packet);
+    for (bool more = one_in(2); more && packet->n > FRONT + 2; more = one_in(3))
+        damage_packet(record, packet);
+}
+
+/* Open: the record is the first lent buffer, the plain packet goes into the second. */
+static void make_open(test *t)
+{
+    make_right_record(&t->lent[0]);
+    make_packet(&t->lent[0], &t->in[0]);
+    if (one_in(8))
+        damage_record(&t->lent[0]);
+    make_room(&t->lent[1], t->in[0].n > FRONT ? t->in[0].n - FRONT : 0);
+}
+
+/* An opened packet as an answer. */
+static void gave_opened(answer *a, int number, unsigned changes)
+{
+    a->number = number;
+    *field(a, 1) = (octet)(changes / 256);
+    *field(a, 1) = (octet)(changes % 256);
+}
+
+/* The plain packet, the changes and the next record. */
+static void expect_open(const test *t, answer *a)
+{
+    opened o = oracle_open(lent(a, 0), in(t, 0), lent(a, 1));
+
+    gave_opened(a, o.number, o.changes);
+}
+
+/* The same by the library. */
+static void give_open(const test *t, answer *a)
+{
+    struct udukemb_opened o = udukemb_open(LENT_AT(0), IN(0), LENT_AT(1));
+
+    gave_opened(a, o.answer, o.changes);
+}
+
+static const call calls[] = {
+    {"udukemb_check_response", 0, make_check_response, expect_check_response, give_check_response},
+    {"udukemb_nt_response", 0, make_login, expect_nt_response, give_nt_response},
+    {"udukemb_authenticator_string", 0, make_proof, expect_authenticator_string, give_authenticator_string},
+    {"udukemb_check_authenticator", 0, make_check_authenticator, expect_check_authenticator, give_check_authenticator},
+    {"udukemb_start_key", 0, make_start_key, expect_start_key, give_start_key},
+    {"udukemb_base_key", 0, make_base_key, expect_base_key, give_base_key},
+    {"udukemb_binding_key", 0, make_binding_key, expect_binding_key, give_binding_key},
+    {"udukemb_option_reply", 0, make_option_reply, expect_option_reply, give_option_reply},
+    {"udukemb_new_link", 0, make_new_link, expect_new_link, give_new_link},
+    {"udukemb_seal", 0, make_seal, expect_seal, give_seal},
+    {"udukemb_open", 0, make_open, expect_open, give_open},
+};
+
+static const call seal_in_run = {"udukemb_seal in a run", 0, make_seal, expect_seal, give_seal};
+static const call open_in_run = {"udukemb_open in a run", 0, make_open, expect_open, give_open};
+
+/* A run of a link: both ends' records, the packet sealed last with its plain packet and the record it leaves, packets lost since the
+   last arrival, and what was compared. */
+static struct {
+    octets sender, receiver, packet, plain;
+    unsigned lost;
+    unsigned long seed, calls, arrivals;
+} run;
+
+static test t;
+static answer expected, given;
+
+/* Ends the program where a run does not go as demand 3 says. */
+static void demand(bool held, const char *what)
+{
+    if (held)
+        return;
+    printf("run of seed %lu, call %lu: %s\n", run.seed, run.calls, what);
+    exit(1);
+}
+
+/* One call of a run, compared; its record is handed back. */
+static void step(const call *c, octets *record, const octets *input, size_t room)
+{
+    copy(&t.lent[0], record);
+    copy(&t.in[0], input);
+    fill(&t.lent[1], room);
+    compare_case(c, &t, run.seed, run.calls++, &expected, &given);
+    copy(record, &given.lent[0]);
+}
+
+/* Seal calls until one is not refused; its packet is kept. */
+static void seal_next(void)
+{
+    do {
+        make_plain(&run.plain);
+        step(&seal_in_run, &run.sender, &run.plain, one_in(10) ? below(40) : FRONT + run.plain.n + below(3));
+    } while (given.number != DONE);
+    copy(&run.packet, &given.lent[1]);
+    run.packet.n = FRONT + run.plain.n;
+}
+
+/* A call of open that the table refuses: a damaged packet, a repeat, or too little room. It must leave the record as it was. */
+static void refused_open(void)
+{
+    static octets packet, record, out;
+    size_t room = one_in(4) ? 0 : LONGEST_PLAIN;
+
+    copy(&packet, &run.packet);
+    copy(&record, &run.receiver);
+    fill(&out, room);
+    if (!one_in(4))
+        damage_packet(&run.receiver, &packet);
+    if (oracle_open(whole(&record), part_of(&packet), whole(&out)).number == DONE)
+        return;
+    copy(&record, &run.receiver);
+    step(&open_in_run, &run.receiver, &packet, room);
+    demand(memcmp(record.at, run.receiver.at, RECORD_OCTETS) == 0, "a refused call changes the record");
+}
+
+/* The packet arrives: it opens to what was sealed, with one key change more than packets were lost, and both records are equal. */
+static void arrive(void)
+{
+    step(&open_in_run, &run.receiver, &run.packet, run.plain.n + below(3));
+    demand(given.number == DONE, "an arrival is refused");
+    demand(memcmp(given.lent[1].at, run.plain.at, run.plain.n) == 0, "an arrival opens to other octets");
+    demand(256u * given.fields.at[0] + given.fields.at[1] == run.lost + 1, "other key changes than packets lost, and one");
+    demand(memcmp(run.sender.at, run.receiver.at, RECORD_OCTETS) == 0, "the records differ");
+    run.lost = 0;
+    run.arrivals++;
+}
+
+/* A run: packets sealed, some lost, refused calls in between. */
+static void run_link(unsigned long packets)
+{
+    unsigned long left = 0;
+
+    make_begin(&run.sender);
+    copy(&run.receiver, &run.sender);
+    run.lost = 0;
+    for (; packets > 0; packets--) {
+        seal_next();
+        if (left == 0 && one_in(4))
+            left = one_in(200) ? MOST_LOST : 1 + below(5);
+        for (bool more = one_in(run.lost < 20 ? 4 : 200); more; more = one_in(2))
+            refused_open();
+        if (left > 0 && run.lost < MOST_LOST) {
+            left--;
+            run.lost++;
+            continue;
+        }
+        left = 0;
+        arrive();
+    }
+}
+
+/* Runs until as many packets are sealed as asked for: many short ones and a long one that wraps. */
+static unsigned long compare_runs(unsigned long seed, unsigned long packets)
+{
+    seeded(seed, sizeof calls / sizeof calls[0]);
+    run.seed = seed;
+    for (unsigned long done = 0; done < packets; done += 50)
+        run_link(50);
+    run_link(3 * COUNTS);
+    printf("runs of a link: %lu calls, all equal; %lu arrivals\n", run.calls, run.arrivals);
+    return run.calls;
+}
+
+/* Compares every call, then runs of a link. */
+int main(int count, char **words)
+{
+    unsigned long seed, cases, total;
+
+    if (count != 3)
+        return 2;
+    read_arguments(count, words, &seed, &cases);
+    total = compare_calls(calls, sizeof calls / sizeof calls[0], seed, cases);
+    total += compare_runs(seed, cases);
+    printf("%lu calls of the C host, all equal\n", total);
+    return 0;
+}

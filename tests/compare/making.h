@@ -1,0 +1,85 @@
+/* Cases made from a seed, and their comparison: what both programs of the large comparison share. */
+#ifndef MAKING_H
+#define MAKING_H
+
+#include "oracle.h"
+
+#include <stdio.h>
+
+enum { INPUTS = 6, LENT = 2, MOST = 65536, NUMBERS = 10 };
+
+/* Octets of any length up to MOST. */
+typedef struct {
+    size_t n;
+    octet at[MOST];
+} octets;
+
+/* A case: its call's number, three numbers, the inputs, and the lent buffers at entry. */
+typedef struct {
+    int call;
+    unsigned x, y, z;
+    octets in[INPUTS];
+    octets lent[LENT];
+} test;
+
+/* What a call gives: its number, its fields in order, and the lent buffers at exit. */
+typedef struct {
+    int number;
+    octets fields;
+    octets lent[LENT];
+} answer;
+
+/* A call: how its cases are made, what the oracle expects, and what the library gives. */
+typedef struct {
+    const char *name;
+    int number; /* of the call, for the program that reads cases */
+    void (*make)(test *t);
+    void (*expect)(const test *t, answer *a);
+    void (*give)(const test *t, answer *a);
+} call;
+
+/* Runs cases of calls; ends the program at the first difference, having printed it. Gives how many were run. */
+unsigned long compare_calls(const call *calls, size_t count, unsigned long seed, unsigned long cases);
+
+/* One case of a call, number k of a seed: answered twice and compared. */
+void compare_case(const call *c, test *t, unsigned long seed, unsigned long k, answer *expected, answer *given);
+
+/* Starts the numbers anew from a seed and a stream of it. */
+void seeded(unsigned long seed, unsigned long stream);
+
+/* A number below a limit, and whether one chance in n came. */
+unsigned long below(unsigned long limit);
+bool one_in(unsigned long n);
+
+/* Lengths: mostly the right one; mostly within limits, often at them, and sometimes just outside. */
+size_t about(size_t right);
+size_t within(size_t low, size_t high);
+
+/* Octets filled at random to a length, and copied. */
+void fill(octets *o, size_t n);
+void copy(octets *to, const octets *from);
+
+/* Inputs: a password, a name, a text of up to 65,536 octets, a start or session key. */
+void make_password(octets *o);
+void make_name(octets *o);
+void make_text(octets *o);
+void make_key(octets *o, unsigned bits);
+
+/* A lent buffer around the room that a result of n octets needs: exact, one less, more, none. */
+void make_room(octets *o, size_t n);
+
+/* An option, often damaged. */
+void make_option(octets *o);
+
+/* Strength k in bits: 0 is 40, 1 is 56, 2 is 128. */
+unsigned strength_bits(unsigned k);
+
+/* A part of a case, a lent buffer of an answer, and the next n octets of its fields. */
+part in(const test *t, int k);
+buffer lent(answer *a, int k);
+octet *field(answer *a, size_t n);
+
+/* The seed and the number of cases for each call, from a program's arguments. */
+void read_arguments(int count, char **words, unsigned long *seed, unsigned long *cases);
+
+#endif

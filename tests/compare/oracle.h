@@ -1,0 +1,118 @@
+/* A second reading of 01 (the users' specification): what every public call must answer, over OpenSSL and plain C. It shares no code
+   with the library. Each function gives the number of 01's table, and writes its result only where that is 0; a result that is not
+   lent is filled with zeros first. */
+#ifndef ORACLE_H
+#define ORACLE_H
+
+#include <stdbool.h>
+#include <stddef.h>
+
+typedef unsigned char octet;
+
+/* A lent input, and a lent buffer. */
+typedef struct {
+    const octet *at;
+    size_t n;
+} part;
+
+typedef struct {
+    octet *at;
+    size_t n;
+} buffer;
+
+/* The numbers a call may answer. */
+enum { DONE, SHAPE, ROOM, SIZE, PROTOCOL, FLAGS, REPEAT, RECORD, STRENGTH, DOMAIN };
+
+/* Lengths. */
+enum {
+    LONGEST_TEXT = 65535,
+    LONGEST_PASSWORD = 512,
+    LONGEST_NAME = 256,
+    LONGEST_RC4_KEY = 256,
+    HASH = 16,
+    CHALLENGE = 16,
+    CHALLENGE_HASH = 8,
+    NT_RESPONSE = 24,
+    AUTHENTICATOR_STRING = 42,
+    DES_KEY = 7,
+    DES_BLOCK = 8,
+    KEY_PLACES = 16,
+    BASE_KEY = 32,
+    BINDING_KEY = 32,
+    OPTION = 6,
+    RECORD_OCTETS = 35,
+    SHORTEST_PLAIN = 2,
+    LONGEST_PLAIN = 1498,
+    FRONT = 4,
+    LEAST_CHALLENGE = 21,
+    LEAST_RESPONSE = 54,
+    RC4_STATE = 258 /* the box and both indices */
+};
+
+/* How many octets a key of a strength has. */
+size_t key_length(unsigned bits);
+
+/* Digests, DES and RC4. */
+int oracle_md4(part text, octet out[16]);
+int oracle_sha1(part text, octet out[20]);
+int oracle_sha256(part text, octet out[32]);
+int oracle_hmac(part key, part text, octet out[32]);
+int oracle_des(part key, part block, octet out[8]);
+int oracle_rc4_keyed(part key, octet state[RC4_STATE]);
+int oracle_rc4_run(octet state[RC4_STATE], part text, buffer out);
+octet oracle_rc4_draw(octet state[RC4_STATE]);
+
+/* MS-CHAPv2. */
+int oracle_password_hash(part password, octet out[HASH]);
+int oracle_hash_hash(part hash, octet out[HASH]);
+int oracle_challenge_hash(part peer, part authenticator, part name, octet out[CHALLENGE_HASH]);
+int oracle_challenge_response(part challenge, part hash, octet out[NT_RESPONSE]);
+int oracle_nt_response(part authenticator, part peer, part name, part password, octet out[NT_RESPONSE]);
+int oracle_authenticator_string(part password, part response, part peer, part authenticator, part name,
+                                octet out[AUTHENTICATOR_STRING]);
+
+/* Challenge and Response packets: kind 1 or 2, as their code. */
+int oracle_read_challenge(part packet, octet *identifier, octet value[CHALLENGE]);
+int oracle_read_response(part packet, octet *identifier, octet peer[CHALLENGE], octet response[NT_RESPONSE]);
+part oracle_name(int kind, part packet);
+int oracle_write_challenge(octet identifier, part challenge, part name, buffer out);
+int oracle_write_response(octet identifier, part peer, part response, part name, buffer out);
+
+/* Keys: a strength in bits, a key in 16 places. */
+int oracle_master_key(part hash, part response, octet out[KEY_PLACES]);
+int oracle_start_key(unsigned bits, bool server, bool send, part master, octet out[KEY_PLACES]);
+int oracle_new_key(unsigned bits, part start, part session, octet out[KEY_PLACES]);
+int oracle_initial_session_key(unsigned bits, part start, octet out[KEY_PLACES]);
+int oracle_reduce(unsigned bits, part key, octet out[KEY_PLACES]);
+int oracle_key_changes(unsigned bits, part start, part session, unsigned n, octet out[KEY_PLACES]);
+
+/* The option. */
+typedef struct {
+    bool stateless, bits40, bits56, bits128;
+} offer;
+
+typedef struct {
+    int number;
+    bool accept;
+    octet bits;
+} reply;
+
+int oracle_read_option(part option, offer *out);
+int oracle_write_option(offer offered, buffer out);
+reply oracle_option_reply(part option, offer allowed, buffer out);
+
+/* The link: a record of 35 octets, as include/udukemb.h lays it out. */
+typedef struct {
+    int number;
+    unsigned changes;
+} opened;
+
+int oracle_new_link(octet bits, part start, buffer record);
+int oracle_seal(buffer record, part plain, buffer out);
+opened oracle_open(buffer record, part packet, buffer out);
+
+/* The binding key. */
+int oracle_base_key(bool server, part send, part receive, octet out[BASE_KEY]);
+int oracle_binding_key(part material, octet out[BINDING_KEY]);
+
+#endif
