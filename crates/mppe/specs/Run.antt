@@ -85,7 +85,7 @@ module _ (limit : ℕ) where
     unfoldable pub onward : History → SealCall → History
     onward h c = onDone (saidCode c) (record { number = suc (h .number); session = nextSession s start h }) h
 
-    -- the packets sealed, in order
+    -- the packets sealed, in order; "Another maker's sender that seals by demand 2 has the same history": no record enters it
     unfoldable pub packets : History → List SealCall → List Packet
     packets h [] = []
     packets h (c ∷ cs) = onDone (saidCode c) (packetOf s start h (c .plain) ∷ packets (onward h c) cs) (packets (onward h c) cs)
