@@ -18,8 +18,11 @@ test:
 fuzz:
 	@tests/compare/run time $(SECONDS)
 
-# gcc's vectoriser halves the speed of plain SHA-1, so it is left out.
+# Beside plain C as gcc builds it, and without gcc's vectoriser, which halves the speed of plain SHA-1.
 bench:
 	@$(call library,bench)
-	@gcc -O3 -fno-tree-vectorize -Wall -Wextra -Werror -o target/bin/bench bench/bench.c bench/plain.c target/staticlib/libbench.a -lcrypto
-	@target/bin/bench
+	@for flags in "-O2" "-O3 -fno-tree-vectorize"; do \
+	    gcc $$flags -Wall -Wextra -Werror -o target/bin/bench bench/bench.c bench/plain.c target/staticlib/libbench.a -lcrypto || exit 1; \
+	    printf '\nPlain C with gcc %s\n\n' "$$flags"; \
+	    target/bin/bench || exit 1; \
+	done

@@ -1,0 +1,41 @@
+-- The ways out of calls that hand on what others gave.
+use mathlib.Core.Path.{_≡_, ap, _∙_}
+use mathlib.Core.List.{List}
+use Prim.Native.Nat.{ℕ}
+use lib.ListN.{length, take, replicate}
+use Rattle.octets.specs.Octets.{written}
+use Rattle.rc4.specs.declared.Keyed.{Keyed}
+use Rattle.rc4.specs.declared.Ran.{Ran}
+use Rattle.rc4.specs.Answers.{runAnswer, runOut}
+use Rattle.mppe_keys.specs.declared.Strength.the-variants.{Bits128}
+use Rattle.mppe.specs.declared.Link.{Link}
+use Rattle.mppe.specs.declared.Outcome.{Outcome}
+use Rattle.mppe.specs.Link.{Result}
+use Rattle.bench.specs.Copied.{copied, linkAt}
+
+-- the number and the octets of an answer, the octets copied into a buffer
+pub handed : {A : Type 0} (number : A → ℕ) (octets : A → List ℕ) {given said : A} {exit : List ℕ} (out : List ℕ) → given ≡ said
+    → exit ≡ written (take (length out) (octets given)) out → (number given ≡ number said) × (exit ≡ copied (octets said) out)
+unfolding copied
+handed number octets out e w = (ap number e, w ∙ ap (λ d. copied (octets d) out) e)
+
+-- a text run over the state of a key
+pub ran-keyed : {given said : Keyed} {ran : Ran} {exit : List ℕ} (text out : List ℕ) → given ≡ said
+    → (ran ≡ runAnswer (given .state) text out) × (exit ≡ runOut (given .state) text out)
+    → (ran .answer ≡ runAnswer (said .state) text out .answer) × (exit ≡ runOut (said .state) text out)
+ran-keyed text out e w =
+    (ap (λ r. r .answer) (w .0) ∙ ap (λ k. runAnswer (k .state) text out .answer) e, w .1 ∙ ap (λ k. runOut (k .state) text out) e)
+
+-- a link call with a record that equals another
+pub linked : (call : Link → List ℕ → List ℕ → Result) {given said : Link} {made : Outcome} {exit : List ℕ} (text out : List ℕ) → given ≡ said
+    → (made ≡ call given text out .outcome) × (exit ≡ call given text out .buffer)
+    → (made .answer ≡ call said text out .outcome .answer) × (exit ≡ call said text out .buffer)
+linked call text out e w =
+    (ap (λ o. o .answer) (w .0) ∙ ap (λ l. call l text out .outcome .answer) e, w .1 ∙ ap (λ l. call l text out .buffer) e)
+
+-- a record put together from two keys copied over zeros
+pub put-together : {first second : List ℕ} (start session : List ℕ) (count : ℕ) → first ≡ written (take 16 start) (replicate 16 0)
+    → second ≡ written (take 16 session) (replicate 16 0)
+    → record { strength = Bits128; start = first; session = second; count = count } ≡ linkAt start session count
+unfolding linkAt copied
+put-together start session count e f = rw (e, f)

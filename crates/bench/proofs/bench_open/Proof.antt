@@ -1,0 +1,20 @@
+use borrow.Author.Needs.{needs}
+use Rattle.mppe.specs.Link.{longestPlain, openResult}
+use Rattle.bench.proofs.Laws.{linked}
+use Rattle.bench.proofs.bench_open.Statement.{statement}
+use Rattle.bench.proofs.bench_open.Tie as tie
+
+link-at-requires : tie.Need-link-at-requires
+link-at-requires c κs = search needs
+
+open-requires : tie.Need-open-requires
+open-requires c κs = search needs
+
+same-length : tie.Need-same-length
+same-length c = search needs
+
+returns : tie.Need-returns
+returns c = linked (openResult longestPlain) _ _ (c .before .before .before .before .link-at .ensures) (c .before .before .open .ensures)
+
+pub bench-open-spec : {M : Type 1} → statement M
+bench-open-spec = tie.close (tie.spec link-at-requires open-requires same-length returns)

@@ -1,0 +1,149 @@
+// What the benchmark calls from C: digests, ciphers, keys and packets over numbers and octet slices. A result is cut to the room lent.
+ghost use mathlib.Core.Path.{_≡_};
+ghost use Rattle.md4.specs.Md4.{md4Answer};
+ghost use Rattle.sha1.specs.Sha1.{sha1Answer};
+ghost use Rattle.sha256.specs.Sha256.{sha256Answer};
+ghost use Rattle.sha256.specs.Hmac.{hmacAnswer};
+ghost use Rattle.des.specs.Des.{encryptAnswer};
+ghost use Rattle.rc4.specs.Answers.{keyedAnswer, runAnswer, runOut};
+ghost use Rattle.mppe_keys.specs.Answers.{keyChangesAnswer};
+ghost use Rattle.mppe_keys.specs.declared.Strength.the-variants.{Bits128};
+ghost use Rattle.mppe.specs.Link.{longestPlain, sealResult, openResult};
+ghost use Rattle.bench.specs.Copied.{copied, linkAt};
+use mppe::Link;
+use mppe_keys::Strength;
+use rc4::Rc4;
+
+// MD4 of a text.
+#[no_mangle]
+pub extern "C" fn bench_md4(text: &[u8], out: &mut [u8]) -> u8
+    ensures { λ r. ⌜ (r ≡ md4Answer (now (text .entry)) .answer)
+        × (now (out .exit) ≡ copied (md4Answer (now (text .entry)) .octets) (now (out .entry))) ⌝ }
+{
+    let d = md4::md4(text);
+    let digest = d.octets;
+    octets::copy(&digest, out);
+    d.answer
+}
+
+// SHA-1 of a text.
+#[no_mangle]
+pub extern "C" fn bench_sha1(text: &[u8], out: &mut [u8]) -> u8
+    ensures { λ r. ⌜ (r ≡ sha1Answer (now (text .entry)) .answer)
+        × (now (out .exit) ≡ copied (sha1Answer (now (text .entry)) .octets) (now (out .entry))) ⌝ }
+{
+    let d = sha1::sha1(text);
+    let digest = d.octets;
+    octets::copy(&digest, out);
+    d.answer
+}
+
+// SHA-256 of a text.
+#[no_mangle]
+pub extern "C" fn bench_sha256(text: &[u8], out: &mut [u8]) -> u8
+    ensures { λ r. ⌜ (r ≡ sha256Answer (now (text .entry)) .answer)
+        × (now (out .exit) ≡ copied (sha256Answer (now (text .entry)) .octets) (now (out .entry))) ⌝ }
+{
+    let d = sha256::sha256(text);
+    let digest = d.octets;
+    octets::copy(&digest, out);
+    d.answer
+}
+
+// HMAC-SHA256 of a key and a text.
+#[no_mangle]
+pub extern "C" fn bench_hmac_sha256(key: &[u8], text: &[u8], out: &mut [u8]) -> u8
+    ensures { λ r. ⌜ (r ≡ hmacAnswer (now (key .entry)) (now (text .entry)) .answer)
+        × (now (out .exit) ≡ copied (hmacAnswer (now (key .entry)) (now (text .entry)) .octets) (now (out .entry))) ⌝ }
+{
+    let d = sha256::hmac_sha256(key, text);
+    let digest = d.octets;
+    octets::copy(&digest, out);
+    d.answer
+}
+
+// DES of a block.
+#[no_mangle]
+pub extern "C" fn bench_des(key: &[u8], block: &[u8], out: &mut [u8]) -> u8
+    ensures { λ r. ⌜ (r ≡ encryptAnswer (now (key .entry)) (now (block .entry)) .answer)
+        × (now (out .exit) ≡ copied (encryptAnswer (now (key .entry)) (now (block .entry)) .octets) (now (out .entry))) ⌝ }
+{
+    let b = des::encrypt(key, block);
+    let enciphered = b.octets;
+    octets::copy(&enciphered, out);
+    b.answer
+}
+
+// RC4 of a text under a fresh key.
+#[no_mangle]
+pub extern "C" fn bench_rc4(key: &[u8], text: &[u8], out: &mut [u8]) -> u8
+    ensures { λ r. ⌜ (r ≡ runAnswer (keyedAnswer (now (key .entry)) .state) (now (text .entry)) (now (out .entry)) .answer)
+        × (now (out .exit) ≡ runOut (keyedAnswer (now (key .entry)) .state) (now (text .entry)) (now (out .entry))) ⌝ }
+{
+    let keyed = Rc4::keyed(key);
+    let state = keyed.state;
+    let ran = state.run(text, out);
+    ran.answer
+}
+
+// A session key of 128 bits after n key changes.
+#[no_mangle]
+pub extern "C" fn bench_key_changes(start: &[u8], session: &[u8], n: usize, out: &mut [u8]) -> u8
+    ensures { λ r. ⌜ (r ≡ keyChangesAnswer Bits128 (now (start .entry)) (now (session .entry)) n .answer)
+        × (now (out .exit) ≡ copied (keyChangesAnswer Bits128 (now (start .entry)) (now (session .entry)) n .octets) (now (out .entry))) ⌝ }
+{
+    let k = mppe_keys::key_changes(Strength::Bits128, start, session, n);
+    let key = k.octets;
+    octets::copy(&key, out);
+    k.answer
+}
+
+// A plain packet sealed with a link of 128 bits.
+#[no_mangle]
+pub extern "C" fn bench_seal(
+    start: &[u8],
+    session: &[u8],
+    count: u16,
+    plain: &[u8],
+    out: &mut [u8],
+) -> u8
+    ensures { λ r. ⌜ (r ≡ sealResult longestPlain (linkAt (now (start .entry)) (now (session .entry)) count) (now (plain .entry)) (now (out .entry)) .outcome .answer)
+        × (now (out .exit) ≡ sealResult longestPlain (linkAt (now (start .entry)) (now (session .entry)) count) (now (plain .entry)) (now (out .entry)) .buffer) ⌝ }
+{
+    let link = link_at(start, session, count);
+    let made = link.seal(plain, out);
+    made.answer
+}
+
+// A sealed packet opened with a link of 128 bits.
+#[no_mangle]
+pub extern "C" fn bench_open(
+    start: &[u8],
+    session: &[u8],
+    count: u16,
+    packet: &[u8],
+    out: &mut [u8],
+) -> u8
+    ensures { λ r. ⌜ (r ≡ openResult longestPlain (linkAt (now (start .entry)) (now (session .entry)) count) (now (packet .entry)) (now (out .entry)) .outcome .answer)
+        × (now (out .exit) ≡ openResult longestPlain (linkAt (now (start .entry)) (now (session .entry)) count) (now (packet .entry)) (now (out .entry)) .buffer) ⌝ }
+{
+    let link = link_at(start, session, count);
+    let made = link.open(packet, out);
+    made.answer
+}
+
+// A link record of 128 bits of its parts, each key cut to 16 places or with zeros behind it.
+fn link_at(start: &[u8], session: &[u8], count: u16) -> Link
+    ensures { λ r. ⌜ r ≡ linkAt (now (start .entry)) (now (session .entry)) count ⌝ }
+{
+    let mut first = [0u8; 16];
+    let mut second = [0u8; 16];
+    octets::copy(start, &mut first);
+    octets::copy(session, &mut second);
+    Link {
+        strength: Strength::Bits128,
+        start: first,
+        session: second,
+        count,
+    }
+}
