@@ -1,6 +1,6 @@
-/* The large comparison of the calls that the C host does not export: cases from a seed, answered by the oracle and, through pipes, by
-   the program crates/cases. Arguments: that program, the seed, and how many cases for each call. */
-#include "making.h"
+/* The large comparison of the calls that the C host does not export, and of the link's own: cases from a seed, answered by the oracle and,
+   through pipes, by the program crates/cases. Arguments: that program, the seed, and how many cases for each call. */
+#include "links.h"
 
 #include <signal.h>
 #include <stdlib.h>
@@ -12,8 +12,9 @@
 enum {
     MD4, SHA1, SHA256, HMAC_SHA256, DES, RC4_KEYED, RC4_RUN, RC4_DRAW,
     PASSWORD_HASH = 16, HASH_HASH, HASH_CHALLENGE, CHALLENGE_RESPONSE,
-    READ_CHALLENGE = 32, READ_RESPONSE, NAME, WRITE_CHALLENGE, WRITE_RESPONSE, READ_OPTION, WRITE_OPTION,
-    MASTER_KEY = 48, START_KEY, NEW_KEY, INITIAL_SESSION_KEY, REDUCE, KEY_CHANGE, KEY_CHANGES, MAKE_BASE_KEY
+    READ_CHALLENGE = 32, READ_RESPONSE, NAME, WRITE_CHALLENGE, WRITE_RESPONSE, READ_OPTION, WRITE_OPTION, ONLY,
+    MASTER_KEY = 48, START_KEY, NEW_KEY, INITIAL_SESSION_KEY, REDUCE, KEY_CHANGE, KEY_CHANGES, MAKE_BASE_KEY, PLACED_KEY_CHANGES, KEY_LENGTH,
+    NEW_LINK = 64, SEAL, OPEN
 };
 
 enum { CASE_INPUTS = 3, CASE_HEAD = 19, ANSWER_HEAD = 6, MANY_CHANGES = 5000 };
@@ -549,6 +550,123 @@ static void expect_base_key(const test *t, answer *a)
     a->number = oracle_base_key(t->y == 1, in(t, 0), in(t, 1), field(a, BASE_KEY));
 }
 
+/* A strength. */
+static void make_strength(test *t)
+{
+    t->x = (unsigned)below(3);
+}
+
+/* The set of it alone. */
+static void expect_only(const test *t, answer *a)
+{
+    for (unsigned k = 0; k < 3; k++)
+        *field(a, 1) = t->x == k;
+}
+
+/* How many octets a key has. */
+static void expect_key_length(const test *t, answer *a)
+{
+    *field(a, 1) = (octet)key_length(strength_bits(t->x));
+}
+
+/* A strength, two keys in 16 places each, and a number of changes. */
+static void make_placed(test *t)
+{
+    make_key_changes(t);
+    fill(&t->in[0], KEY_PLACES);
+    fill(&t->in[1], KEY_PLACES);
+}
+
+/* The session key after the changes, of which the places behind it have no part. */
+static void expect_placed(const test *t, answer *a)
+{
+    unsigned bits = strength_bits(t->x);
+    part start = {t->in[0].at, key_length(bits)}, session = {t->in[1].at, key_length(bits)};
+
+    oracle_key_changes(bits, start, session, t->y, field(a, KEY_PLACES));
+}
+
+/* Puts a record of 35 octets into a case: x is the strength, y the count, the first two inputs are the keys' places. */
+static void put_record(test *t, const octets *record)
+{
+    t->x = record->at[0] == 40 ? 0 : record->at[0] == 56 ? 1 : 2;
+    t->y = (unsigned)get_number(record->at + AT_COUNT, 2);
+    t->in[0].n = t->in[1].n = KEY_PLACES;
+    memcpy(t->in[0].at, record->at + AT_START, KEY_PLACES);
+    memcpy(t->in[1].at, record->at + AT_SESSION, KEY_PLACES);
+}
+
+/* The record of a case, as an answer's fields behind the key changes. */
+static buffer record_of(const test *t, answer *a)
+{
+    buffer record = {field(a, 2 + RECORD_OCTETS) + 2, RECORD_OCTETS};
+
+    memset(record.at - 2, 0, 2 + RECORD_OCTETS);
+    record.at[0] = (octet)strength_bits(t->x);
+    memcpy(record.at + AT_START, t->in[0].at, t->in[0].n <= KEY_PLACES ? t->in[0].n : 0);
+    memcpy(record.at + AT_SESSION, t->in[1].at, t->in[1].n);
+    put_number(record.at + AT_COUNT, t->y, 2);
+    return record;
+}
+
+/* A strength and a start key. */
+static void make_new_link(test *t)
+{
+    t->x = (unsigned)below(3);
+    make_key(&t->in[0], strength_bits(t->x));
+}
+
+/* The new link; a refused one has its strength and all else 0. */
+static void expect_new_link(const test *t, answer *a)
+{
+    buffer record = record_of(t, a);
+
+    memset(record.at + AT_START, 0, RECORD_OCTETS - AT_START);
+    a->number = oracle_new_link((octet)strength_bits(t->x), in(t, 0), record);
+}
+
+/* A record, a plain packet and room. */
+static void make_seal(test *t)
+{
+    static octets record;
+
+    make_right_record(&record);
+    if (one_in(6))
+        damage_record(&record);
+    put_record(t, &record);
+    make_plain(&t->in[2]);
+    make_room(&t->lent[0], FRONT + t->in[2].n);
+}
+
+/* Changes, the next record and the packet. */
+static void expect_seal(const test *t, answer *a)
+{
+    a->number = oracle_seal(record_of(t, a), in(t, 2), lent(a, 0));
+    a->fields.at[1] = a->number == DONE;
+}
+
+/* A record, a packet and room. */
+static void make_open(test *t)
+{
+    static octets record;
+
+    make_right_record(&record);
+    make_arriving(&record, &t->in[2]);
+    if (one_in(8))
+        damage_record(&record);
+    put_record(t, &record);
+    make_room(&t->lent[0], t->in[2].n > FRONT ? t->in[2].n - FRONT : 0);
+}
+
+/* Changes, the next record and the plain packet. */
+static void expect_open(const test *t, answer *a)
+{
+    opened o = oracle_open(record_of(t, a), in(t, 2), lent(a, 0));
+
+    a->number = o.number;
+    put_number(a->fields.at, o.changes, 2);
+}
+
 static const call calls[] = {
     {"md4", MD4, make_one_text, expect_md4, ask},
     {"sha1", SHA1, make_one_text, expect_sha1, ask},
@@ -569,6 +687,7 @@ static const call calls[] = {
     {"write_response", WRITE_RESPONSE, make_write_response, expect_write_response, ask},
     {"ccp::read", READ_OPTION, make_one_option, expect_read_option, ask},
     {"ccp::write", WRITE_OPTION, make_write_option, expect_write_option, ask},
+    {"ccp::only", ONLY, make_strength, expect_only, ask},
     {"master_key", MASTER_KEY, make_master_key, expect_master_key, ask},
     {"start_key", START_KEY, make_start_key, expect_start_key, ask},
     {"new_key", NEW_KEY, make_two_keys, expect_new_key, ask},
@@ -577,6 +696,11 @@ static const call calls[] = {
     {"key_change", KEY_CHANGE, make_two_keys, expect_key_change, ask},
     {"key_changes", KEY_CHANGES, make_key_changes, expect_key_changes, ask},
     {"base_key", MAKE_BASE_KEY, make_base_key, expect_base_key, ask},
+    {"placed_key_changes", PLACED_KEY_CHANGES, make_placed, expect_placed, ask},
+    {"key_length", KEY_LENGTH, make_strength, expect_key_length, ask},
+    {"Link::new", NEW_LINK, make_new_link, expect_new_link, ask},
+    {"Link::seal", SEAL, make_seal, expect_seal, ask},
+    {"Link::open", OPEN, make_open, expect_open, ask},
 };
 
 /* Compares every call. */

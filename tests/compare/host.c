@@ -1,13 +1,13 @@
 /* The large comparison of the calls that a C host makes: cases from a seed, answered by the oracle and by the library through
    include/udukemb.h; then whole runs of a link, with losses, repeats and damage between sender and receiver (demand 3).
    Arguments: the seed, and how many cases for each call. */
-#include "making.h"
+#include "links.h"
 #include "udukemb.h"
 
 #include <stdlib.h>
 #include <string.h>
 
-enum { COUNTS = 4096, MOST_LOST = 4094, AT_START = 1, AT_SESSION = 17, AT_COUNT = 33 };
+enum { SHORT_RUN = 50, LONG_RUN = 3 * 4096, MOST_LOST = 4094 };
 
 /* An input as two arguments: a part of length 0 has a null pointer. */
 #define IN(k) (t->in[k].n > 0 ? t->in[k].at : NULL), t->in[k].n
@@ -152,12 +152,6 @@ static void give_check_authenticator(const test *t, answer *a)
     gave_check(a, udukemb_check_authenticator(IN(0), IN(1), IN(2), IN(3), IN(4), IN(5)));
 }
 
-/* A number for a strength in bits, also one that is none. */
-static unsigned make_bits(void)
-{
-    return one_in(12) ? (unsigned)below(256) : strength_bits((unsigned)below(3));
-}
-
 /* Whether it is one. */
 static bool is_strength(unsigned bits)
 {
@@ -298,99 +292,6 @@ static void give_new_link(const test *t, answer *a)
     a->number = udukemb_new_link((uint8_t)t->x, IN(0), LENT_AT(0));
 }
 
-/* Octets as a buffer. */
-static buffer whole(octets *o)
-{
-    buffer b = {o->at, o->n};
-
-    return b;
-}
-
-/* Octets as an input. */
-static part part_of(const octets *o)
-{
-    part p = {o->at, o->n};
-
-    return p;
-}
-
-/* Sets a record's count. */
-static void set_count(octets *record, size_t count)
-{
-    record->at[AT_COUNT] = (octet)(count / 256);
-    record->at[AT_COUNT + 1] = (octet)(count % 256);
-}
-
-/* A record's count. */
-static unsigned count_of(const octets *record)
-{
-    return 256u * record->at[AT_COUNT] + record->at[AT_COUNT + 1];
-}
-
-/* The record of a new link. */
-static void make_begin(octets *record)
-{
-    static octets start;
-    unsigned bits = strength_bits((unsigned)below(3));
-
-    fill(&start, key_length(bits));
-    fill(record, RECORD_OCTETS);
-    oracle_new_link((octet)bits, part_of(&start), whole(record));
-}
-
-/* A record, well formed but hand-made: any session key that reduce leaves, any count, often near the wrap. */
-static void make_right_record(octets *record)
-{
-    octet session[KEY_PLACES];
-    unsigned bits;
-
-    make_begin(record);
-    bits = record->at[0];
-    for (size_t k = 0; k < key_length(bits); k++)
-        record->at[AT_SESSION + k] = (octet)below(256);
-    part key = {record->at + AT_SESSION, key_length(bits)};
-    oracle_reduce(bits, key, session);
-    memcpy(record->at + AT_SESSION, session, KEY_PLACES);
-    set_count(record, one_in(3) ? (COUNTS - 3 + below(6)) % COUNTS : below(COUNTS));
-}
-
-/* One damage to a record: strength, places behind a key, the session key's front, count, length, or all of it. */
-static void damage_record(octets *record)
-{
-    switch (below(6)) {
-    case 0:
-        record->at[0] = (octet)make_bits();
-        break;
-    case 1:
-        record->at[AT_START + (one_in(2) ? 8 : 24) + below(8)] = (octet)below(3);
-        break;
-    case 2:
-        record->at[AT_SESSION + below(3)] ^= (octet)(1 << below(8));
-        break;
-    case 3:
-        set_count(record, one_in(2) ? COUNTS - 1 + below(3) : below(65536));
-        break;
-    case 4:
-        record->n = one_in(2) ? below(80) : one_in(2) ? RECORD_OCTETS - 1 : RECORD_OCTETS + 1;
-        break;
-    default:
-        fill(record, RECORD_OCTETS);
-        record->at[0] = (octet)strength_bits((unsigned)below(3));
-    }
-}
-
-/* A plain packet: its protocol number mostly one that is carried, often at the limits. */
-static void make_plain(octets *plain)
-{
-    static const octet edges[] = {0x20, 0x21, 0xFA, 0xFB};
-
-    fill(plain, within(SHORTEST_PLAIN, LONGEST_PLAIN));
-    if (plain->n < SHORTEST_PLAIN)
-        return;
-    plain->at[0] = one_in(20) ? (octet)below(3) : 0;
-    plain->at[1] = one_in(6) ? edges[below(4)] : one_in(20) ? (octet)below(256) : (octet)(0x21 + below(0xDA));
-}
-
 /* Seal: the record is the first lent buffer, the packet goes into the second. */
 static void make_seal(test *t)
 {
@@ -413,67 +314,11 @@ static void give_seal(const test *t, answer *a)
     a->number = udukemb_seal(LENT_AT(0), IN(0), LENT_AT(1));
 }
 
-/* The packet that a record's sender seals a distance after it. */
-static void make_sealed(const octets *record, unsigned distance, octets *packet)
-{
-    static octets sender, plain;
-    size_t n = key_length(record->at[0]);
-    part start = {sender.at + AT_START, n}, session = {record->at + AT_SESSION, n};
-    octet key[KEY_PLACES];
-
-    copy(&sender, record);
-    oracle_key_changes(record->at[0], start, session, distance - 1, key);
-    memcpy(sender.at + AT_SESSION, key, KEY_PLACES);
-    set_count(&sender, (count_of(record) + distance - 1) % COUNTS);
-    make_plain(&plain);
-    fill(packet, FRONT + plain.n);
-    oracle_seal(whole(&sender), part_of(&plain), whole(packet));
-}
-
-/* One damage to a packet: its first octets, its flags, its count, an octet of its data, its protocol number, or its length. */
-static void damage_packet(const octets *record, octets *packet)
-{
-    switch (below(7)) {
-    case 0:
-        packet->at[below(2)] ^= (octet)(1 << below(8));
-        break;
-    case 1:
-        packet->at[2] ^= (octet)(0x10 << below(4));
-        break;
-    case 2:
-        packet->at[2] = (octet)((packet->at[2] & 0xF0) | (count_of(record) / 256 % 16));
-        packet->at[3] = (octet)count_of(record);
-        break;
-    case 3:
-        packet->at[below(packet->n)] ^= (octet)(1 << below(8));
-        break;
-    case 4:
-        packet->at[FRONT + below(2)] ^= (octet)(1 << below(8));
-        break;
-    case 5:
-        packet->n = below(9);
-        break;
-    default:
-        fill(packet, one_in(2) ? FRONT + LONGEST_PLAIN + below(3) : below(40));
-        memcpy(packet->at, "\x00\xFD\x90\x00", FRONT);
-    }
-}
-
-/* A packet for a record, damaged in none, one or several ways. */
-static void make_packet(const octets *record, octets *packet)
-{
-    unsigned distance = 1 + (unsigned)(one_in(60) ? below(COUNTS - 1) : one_in(3) ? below(20) : 0);
-
-    make_sealed(record, distance, packet);
-    for (bool more = one_in(2); more && packet->n > FRONT + 2; more = one_in(3))
-        damage_packet(record, packet);
-}
-
 /* Open: the record is the first lent buffer, the plain packet goes into the second. */
 static void make_open(test *t)
 {
     make_right_record(&t->lent[0]);
-    make_packet(&t->lent[0], &t->in[0]);
+    make_arriving(&t->lent[0], &t->in[0]);
     if (one_in(8))
         damage_record(&t->lent[0]);
     make_room(&t->lent[1], t->in[0].n > FRONT ? t->in[0].n - FRONT : 0);
@@ -571,7 +416,7 @@ static void refused_open(void)
     copy(&record, &run.receiver);
     fill(&out, room);
     if (!one_in(4))
-        damage_packet(&run.receiver, &packet);
+        damage_arriving(&run.receiver, &packet);
     if (oracle_open(whole(&record), part_of(&packet), whole(&out)).number == DONE)
         return;
     copy(&record, &run.receiver);
@@ -591,27 +436,28 @@ static void arrive(void)
     run.arrivals++;
 }
 
-/* A run: packets sealed, some lost, refused calls in between. */
+/* A run: packets sealed, some lost, in a long run once as many in a row as may be, and refused calls in between. */
 static void run_link(unsigned long packets)
 {
-    unsigned long left = 0;
+    bool far = packets > MOST_LOST;
+    unsigned long left = far && one_in(2) ? MOST_LOST : 0;
 
     make_begin(&run.sender);
     copy(&run.receiver, &run.sender);
     run.lost = 0;
     for (; packets > 0; packets--) {
         seal_next();
-        if (left == 0 && one_in(4))
-            left = one_in(200) ? MOST_LOST : 1 + below(5);
+        if (run.lost == 0 && left == 0 && one_in(4))
+            left = far && one_in(200) ? MOST_LOST : 1 + below(5);
+        far = far && left < MOST_LOST;
         for (bool more = one_in(run.lost < 20 ? 4 : 200); more; more = one_in(2))
             refused_open();
-        if (left > 0 && run.lost < MOST_LOST) {
+        if (left > 0) {
             left--;
             run.lost++;
-            continue;
+        } else {
+            arrive();
         }
-        left = 0;
-        arrive();
     }
 }
 
@@ -620,9 +466,9 @@ static unsigned long compare_runs(unsigned long seed, unsigned long packets)
 {
     seeded(seed, sizeof calls / sizeof calls[0]);
     run.seed = seed;
-    for (unsigned long done = 0; done < packets; done += 50)
-        run_link(50);
-    run_link(3 * COUNTS);
+    for (unsigned long done = 0; done < packets; done += SHORT_RUN)
+        run_link(SHORT_RUN);
+    run_link(LONG_RUN);
     printf("runs of a link: %lu calls, all equal; %lu arrivals\n", run.calls, run.arrivals);
     return run.calls;
 }

@@ -1,12 +1,13 @@
 // Cases of keys.
 use crate::Numbers;
+use crate::low;
 use crate::tell;
 use mppe_keys::Direction;
 use mppe_keys::Key;
 use mppe_keys::Role;
 use mppe_keys::Strength;
 
-// The calls 48 to 55.
+// The calls 48 to 57.
 pub fn call(n: Numbers, a: &[u8], b: &[u8]) {
     let call = n.call;
     match call {
@@ -18,8 +19,26 @@ pub fn call(n: Numbers, a: &[u8], b: &[u8]) {
         53 => tell_key(mppe_keys::key_change(strength(n.x), a, b)),
         54 => tell_key(mppe_keys::key_changes(strength(n.x), a, b, n.y)),
         55 => tell_base_key(role(n.y), a, b),
+        56 => tell_placed(strength(n.x), places(a), places(b), n.y),
+        57 => tell_length(strength(n.x)),
         _ => {}
     }
+}
+
+// Strength n: 0 is 40 bits, 1 is 56.
+pub fn strength(n: usize) -> Strength {
+    match n {
+        0 => Strength::Bits40,
+        1 => Strength::Bits56,
+        _ => Strength::Bits128,
+    }
+}
+
+// The 16 places of a key, from an input of at most as many octets.
+pub fn places(a: &[u8]) -> [u8; 16] {
+    let mut key = [0u8; 16];
+    octets::copy(a, &mut key);
+    key
 }
 
 // A key in its 16 places.
@@ -35,13 +54,16 @@ fn tell_base_key(role: Role, a: &[u8], b: &[u8]) {
     tell(key.answer, &octets, &[]);
 }
 
-// Strength n: 0 is 40 bits, 1 is 56.
-fn strength(n: usize) -> Strength {
-    match n {
-        0 => Strength::Bits40,
-        1 => Strength::Bits56,
-        _ => Strength::Bits128,
-    }
+// Key changes over keys in 16 places, which have no number.
+fn tell_placed(strength: Strength, start: [u8; 16], session: [u8; 16], changes: usize) {
+    let key = mppe_keys::placed_key_changes(strength, start, session, changes);
+    tell(0, &key, &[]);
+}
+
+// How many octets a key has.
+fn tell_length(strength: Strength) {
+    let n = mppe_keys::key_length(strength);
+    tell(0, &[low(n)], &[]);
 }
 
 // Role n: 0 is the client.

@@ -4,6 +4,7 @@
 // content of the lent buffer. An answer is the length of its fields (2), that of the lent buffer (3), the number answered (1), the fields,
 // and the lent buffer's content at exit. Any octets may come: a case cut short has zeros for the rest, and is the last.
 mod keys;
+mod links;
 mod logins;
 mod packets;
 mod texts;
@@ -107,6 +108,7 @@ fn call(n: Numbers, a: &[u8], b: &[u8], c: &[u8], lent: &mut [u8]) {
         1 => logins::call(n, a, b, c),
         2 => packets::call(n, a, b, c, lent),
         3 => keys::call(n, a, b),
+        4 => links::call(n, a, b, c, lent),
         _ => {}
     }
 }

@@ -1,12 +1,14 @@
 // Cases of Challenge and Response packets and of the CCP option.
 use crate::Numbers;
+use crate::keys::strength;
 use crate::low;
 use crate::tell;
 use ccp::Mode;
 use ccp::Strengths;
+use mppe_keys::Strength;
 use mschap_packets::Kind;
 
-// The calls 32 to 38.
+// The calls 32 to 39.
 pub fn call(n: Numbers, a: &[u8], b: &[u8], c: &[u8], lent: &mut [u8]) {
     let call = n.call;
     match call {
@@ -17,6 +19,7 @@ pub fn call(n: Numbers, a: &[u8], b: &[u8], c: &[u8], lent: &mut [u8]) {
         36 => tell_write_response(low(n.x), a, b, c, lent),
         37 => tell_option(a),
         38 => tell_write_option(mode(n.x), strengths(n.y), lent),
+        39 => tell_only(strength(n.x)),
         _ => {}
     }
 }
@@ -61,7 +64,7 @@ fn tell_write_response(identifier: u8, a: &[u8], b: &[u8], c: &[u8], lent: &mut 
     tell(number, &[], lent);
 }
 
-// An option read: its mode, and 40, 56 and 128 bits, each 1 or 0.
+// An option read: its mode, 1 for stateless, and its strengths.
 fn tell_option(a: &[u8]) {
     let offer = ccp::read(a);
     let mode = offer.mode;
@@ -70,12 +73,8 @@ fn tell_option(a: &[u8]) {
         Mode::Stateless => 1,
         Mode::Stateful => 0,
     };
-    let fields = [
-        stateless,
-        strengths.bits40 as u8,
-        strengths.bits56 as u8,
-        strengths.bits128 as u8,
-    ];
+    let set = set_fields(strengths);
+    let fields = [stateless, set[0], set[1], set[2]];
     tell(offer.answer, &fields, &[]);
 }
 
@@ -83,6 +82,21 @@ fn tell_option(a: &[u8]) {
 fn tell_write_option(mode: Mode, strengths: Strengths, lent: &mut [u8]) {
     let number = ccp::write(mode, strengths, lent);
     tell(number, &[], lent);
+}
+
+// The set of one strength, which has no number.
+fn tell_only(strength: Strength) {
+    let fields = set_fields(ccp::only(strength));
+    tell(0, &fields, &[]);
+}
+
+// A set of strengths: 40, 56 and 128 bits, each 1 or 0.
+fn set_fields(strengths: Strengths) -> [u8; 3] {
+    [
+        strengths.bits40 as u8,
+        strengths.bits56 as u8,
+        strengths.bits128 as u8,
+    ]
 }
 
 // Kind n: 0 is a Challenge.

@@ -13,55 +13,59 @@ use Rattle.answer.specs.Answer.{done, room, size, notRecord, strength, pick, fi
 use Rattle.octets.specs.Octets.{written, writtenAt, bigEndian}
 use Rattle.octets.proofs.Laws.{append-more}
 use Rattle.mschap.specs.declared.Hash.{Hash}
-use Rattle.mschap.specs.declared.Checked.{Checked}
-use Rattle.mschap.specs.Lengths.{longestPassword, responseLength, hashLength}
+use Rattle.mschap.specs.Lengths.{longestPassword, responseLength}
 use Rattle.mschap.specs.Mschap.{passwordHash, hashHash}
-use Rattle.mschap.specs.Answers.{passwordRows, hashAnswer, passwordHashAnswer, hashHashAnswer}
+use Rattle.mschap.specs.Answers.{hashAnswer, passwordHashAnswer, hashHashAnswer}
 use Rattle.mschap.specs.Laws.{passwordHash-length, hashHash-length, hashHash-done}
 use Rattle.mppe_keys.specs.declared.Strength.{Strength}
 use Rattle.mppe_keys.specs.declared.Strength.the-variants.{Bits40, Bits56, Bits128}
 use Rattle.mppe_keys.specs.declared.Role.{Role}
 use Rattle.mppe_keys.specs.declared.Direction.{Direction}
 use Rattle.mppe_keys.specs.declared.Key.{Key}
-use Rattle.mppe_keys.specs.Keys.{bitsOf, keyLength, masterKey, startKey, placed}
-use Rattle.mppe_keys.specs.Answers.{refusal, keyAnswer, oneCode, twoCode, masterKeyAnswer, startKeyAnswer}
+use Rattle.mppe_keys.specs.Keys.{bitsOf, keyLength, startKey, placed}
+use Rattle.mppe_keys.specs.Answers.{keyAnswer, oneCode, twoCode, masterKeyAnswer, startKeyAnswer}
 use Rattle.mppe_keys.specs.Laws.{masterKey-length, startKey-length}
 use Rattle.ccp.specs.declared.Strengths.{Strengths}
 use Rattle.ccp.specs.declared.Choice.{Choice}
 use Rattle.ccp.specs.declared.Reply.{Reply as CcpReply}
-use Rattle.ccp.specs.declared.Reply.the-variants.{Accept, CounterOffer, Refused}
+use Rattle.ccp.specs.declared.Reply.the-variants.{Refused}
 use Rattle.ccp.specs.Option.{optionOctets, only}
 use Rattle.ccp.specs.Answers.{writeNumber, writeOut, replyAnswer, numberOf}
 use Rattle.mppe.specs.declared.Link.{Link}
 use Rattle.mppe.specs.declared.NewLink.{NewLink}
 use Rattle.mppe.specs.declared.Outcome.{Outcome}
 use Rattle.mppe.specs.Link.{Result, newLink}
-use Rattle.host.specs.declared.Check.{Check}
 use Rattle.host.specs.declared.Reply.{Reply}
 use Rattle.host.specs.declared.Opened.{Opened}
-use Rattle.host.specs.Host.{Given, Linked, given, checkOf, roleOf, directionOf, strengthOf, noStrength, startKeyFrom, masterKeyFrom, credentialRows, startKeyGiven, choiceOctets, optionGiven, optionReply, choiceReply, replyOf, replyOctets, recordLength, recordOctets, recordIn, noRecord, newLinkGiven, linked, linkedBy, openedBy}
+use Rattle.host.specs.Host.{Given, Linked, given, roleOf, directionOf, strengthOf, noStrength, startKeyFrom, masterKeyFrom, credentialRows, startKeyGiven, choiceOctets, optionGiven, optionReply, choiceReply, replyOf, replyOctets, recordLength, recordOctets, recordIn, noRecord, newLinkGiven, linked, linkedBy, openedBy}
+
+-- a call's number and the lent buffer after it are those of a definition ..
+abbrev pub Gave : ℕ → List ℕ → Given → Type 0
+Gave number buffer g = (number ≡ g .number) × (buffer ≡ g .buffer)
+
+-- .. and so those of an equal one
+told : {g g′ : Given} {r : ℕ} {out′ : List ℕ} → g ≡ g′ → Gave r out′ g → Gave r out′ g′
+told e w = (w .0 ∙ ap (λ g. g .number) e, w .1 ∙ ap (λ g. g .buffer) e)
 
 -- a result given over: it came with a refusal, it has no room, it has
-pub given-refused : (code : ℕ) (result out : List ℕ) → (code ≡ done → ⊥) → (code ≡ given code result out .number) × (out ≡ given code result out .buffer)
+pub given-refused : (code : ℕ) (result out : List ℕ) → (code ≡ done → ⊥) → Gave code out (given code result out)
 unfolding given
 given-refused zero result out h = absurd (h refl)
 given-refused (suc n) result out h = (refl, refl)
 
-pub given-room : (code : ℕ) (result out : List ℕ) → code ≡ done → length out < length result
-    → (room ≡ given code result out .number) × (out ≡ given code result out .buffer)
+pub given-room : (code : ℕ) (result out : List ℕ) → code ≡ done → length out < length result → Gave room out (given code result out)
 unfolding given
 given-room code result out e h = rw (e, lt-ltb (length out) (length result) h) (refl, refl)
 
-pub given-done : {out′ : List ℕ} (code : ℕ) (result out : List ℕ) → code ≡ done → length result ≤ length out → out′ ≡ written (take (length out) result) out
-    → (done ≡ given code result out .number) × (out′ ≡ given code result out .buffer)
+pub given-done : {out′ : List ℕ} (code : ℕ) (result out : List ℕ) → code ≡ done → length result ≤ length out
+    → out′ ≡ written (take (length out) result) out → Gave done out′ (given code result out)
 unfolding given
 given-done code result out e h w = rw (e, le-ltb (length out) (length result) h) (refl, w ∙ rw (take-all (length out) result h))
 
 -- the number and the octets of a call's answer, given over
 pub handed : {A : Type 0} (number : A → ℕ) (octets : A → List ℕ) {got said : A} {r : ℕ} {out′ : List ℕ} (out : List ℕ) → got ≡ said
-    → (r ≡ given (number got) (octets got) out .number) × (out′ ≡ given (number got) (octets got) out .buffer)
-    → (r ≡ given (number said) (octets said) out .number) × (out′ ≡ given (number said) (octets said) out .buffer)
-handed number octets out e w = (w .0 ∙ ap (λ a. given (number a) (octets a) out .number) e, w .1 ∙ ap (λ a. given (number a) (octets a) out .buffer) e)
+    → Gave r out′ (given (number got) (octets got) out) → Gave r out′ (given (number said) (octets said) out)
+handed number octets out e w = told (ap (λ a. given (number a) (octets a) out) e) w
 
 -- the strength of a number of bits
 pub bits-40 : (bits : ℕ) → bits ≡ 40 → Bits40 ≡ strengthOf bits
@@ -80,15 +84,26 @@ none-told bits es eb = rw (eb, es)
 pub none-first : {none : Bool} (rest : ℕ) → none ≡ true → pick none strength rest ≡ strength
 none-first rest h = rw h
 
-pub none-given : {code : ℕ} (result out : List ℕ) → code ≡ strength → (strength ≡ given code result out .number) × (out ≡ given code result out .buffer)
+pub none-given : {code : ℕ} (result out : List ℕ) → code ≡ strength → Gave strength out (given code result out)
 unfolding given
 none-given result out e = rw e (refl, refl)
 
+-- the tests of a password, and the number of tests that are all rows of 3
+abbrev tooLong : List ℕ → Bool
+tooLong password = ltb longestPassword (length password)
+
+abbrev odd : List ℕ → Bool
+odd password = not (eqb (length password % 2) 0)
+
+abbrev two : Bool → Bool → ℕ
+two a b = pick a size (pick b size done)
+
+abbrev three : Bool → Bool → Bool → ℕ
+three a b c = pick a size (pick b size (pick c size done))
+
 -- credentials: a password that is refused, and one that is not
-refused-rows : (a b c : Bool) (hash key : List ℕ) → (pick a size (pick b size done) ≡ done → ⊥)
-    → _≡_ {A = Key}
-    (record { answer = pick a size (pick b size done); octets = onDone (pick a size (pick b size done)) hash (replicate 16 0) })
-    (keyAnswer (pick a size (pick b size (pick c size done))) key)
+refused-rows : (a b c : Bool) (hash key : List ℕ) → (two a b ≡ done → ⊥)
+    → _≡_ {A = Key} (record { answer = two a b; octets = onDone (two a b) hash (replicate 16 0) }) (keyAnswer (three a b c) key)
 unfolding keyAnswer
 refused-rows true b c hash key h = refl
 refused-rows false true c hash key h = refl
@@ -99,29 +114,30 @@ pub master-refused : {hash : Hash} (password response key : List ℕ) → hash �
 unfolding passwordHashAnswer hashAnswer
 master-refused password response key e h =
     rw e
-    (refused-rows (ltb longestPassword (length password)) (not (eqb (length password % 2) 0)) (wrong responseLength response) (passwordHash password) key
+    (refused-rows (tooLong password) (odd password) (wrong responseLength response) (passwordHash password) key
     (λ z. h (ap (λ a. a .answer) e ∙ z)))
 
-rows-behind : (a b : Bool) (n : ℕ) → pick a size (pick b size done) ≡ done → pick a size (pick b size n) ≡ n
-rows-behind true b n h = absurd (suc-ne-zero 2 h)
-rows-behind false true n h = absurd (suc-ne-zero 2 h)
-rows-behind false false n h = refl
+rows-behind : (a b c : Bool) → two a b ≡ done → three a b c ≡ pick c size done
+rows-behind true b c h = absurd (suc-ne-zero 2 h)
+rows-behind false true c h = absurd (suc-ne-zero 2 h)
+rows-behind false false c h = refl
 
 pub master-made : {hash hashed : Hash} {key : Key} (password response : List ℕ) → hash ≡ passwordHashAnswer password → hash .answer ≡ done
     → hashed ≡ hashHashAnswer (hash .octets) → key ≡ masterKeyAnswer (hashed .octets) response
     → key ≡ keyAnswer (firstOf (credentialRows password response)) (masterKeyFrom password response)
 unfolding passwordHashAnswer hashAnswer masterKeyAnswer masterKeyFrom twoCode
 master-made {hash} {hashed} password response e h e′ ek =
-    let number : firstOf (passwordRows password) ≡ done = sym (ap (λ a. a .answer) e) ∙ h in
+    let number : two (tooLong password) (odd password) ≡ done = sym (ap (λ a. a .answer) e) ∙ h in
     let p : List ℕ = passwordHash password in
-    let one : hash .octets ≡ p = ap (λ a. a .octets) e ∙ rw number in
-    let two : hashed .octets ≡ hashHash p = ap (λ a. a .octets) (e′ ∙ ap hashHashAnswer one ∙ hashHash-done p (passwordHash-length password)) in
-    let last : firstOf (credentialRows password response) ≡ firstOf ((size, wrong responseLength response) ∷ []) =
-    rows-behind (ltb longestPassword (length password)) (not (eqb (length password % 2) 0)) (firstOf ((size, wrong responseLength response) ∷ [])) number in
-    ek ∙ rw (two, eq-eqb (length (hashHash p)) 16 (hashHash-length p), last)
+    let first : hash .octets ≡ p = ap (λ a. a .octets) e ∙ rw number in
+    let again = e′ ∙ ap hashHashAnswer first ∙ hashHash-done p (passwordHash-length password) in
+    let second : hashed .octets ≡ hashHash p = ap (λ a. a .octets) again in
+    let last = rows-behind (tooLong password) (odd password) (wrong responseLength response) number in
+    ek ∙ rw (second, eq-eqb (length (hashHash p)) 16 (hashHash-length p), last)
 
 -- a master key that is refused, and one that is not
-pub start-refused : {master : Key} (code : ℕ) (m key : List ℕ) → master ≡ keyAnswer code m → (master .answer ≡ done → ⊥) → master ≡ keyAnswer code key
+pub start-refused : {master : Key} (code : ℕ) (m key : List ℕ) → master ≡ keyAnswer code m → (master .answer ≡ done → ⊥)
+    → master ≡ keyAnswer code key
 unfolding keyAnswer
 start-refused zero m key e h = absurd (h (ap (λ a. a .answer) e))
 start-refused (suc n) m key e h = e
@@ -148,42 +164,37 @@ start-made s role direction password response e h ek =
 
 -- the front of a start key in its places, given over
 key-given : (a b c : Bool) (n : ℕ) (key out : List ℕ) → length key ≡ n
-    → given (keyAnswer (pick a size (pick b size (pick c size done))) key .answer) (take n (keyAnswer (pick a size (pick b size (pick c size done))) key .octets)) out
-    ≡ given (pick a size (pick b size (pick c size done))) key out
+    → given (keyAnswer (three a b c) key .answer) (take n (keyAnswer (three a b c) key .octets)) out ≡ given (three a b c) key out
 unfolding keyAnswer given placed
 key-given true b c n key out h = refl
 key-given false true c n key out h = refl
 key-given false false true n key out h = refl
 key-given false false false n key out h = rw (take-at key (replicate (16 - length key) 0) n h)
 
--- what is given by one definition is given by an equal one
-told : {g g′ : Given} {r : ℕ} {out′ : List ℕ} → g ≡ g′ → (r ≡ g .number) × (out′ ≡ g .buffer) → (r ≡ g′ .number) × (out′ ≡ g′ .buffer)
-told e w = (w .0 ∙ ap (λ g. g .number) e, w .1 ∙ ap (λ g. g .buffer) e)
-
-pub start-given : {s : Strength} {role : Role} {direction : Direction} {key : Key} {out′ : List ℕ} {n r : ℕ} (bits : ℕ) (server send : Bool) (password response out : List ℕ)
-    → noStrength bits ≡ false → s ≡ strengthOf bits → role ≡ roleOf server → direction ≡ directionOf send
+pub start-given : {s : Strength} {role : Role} {direction : Direction} {key : Key} {out′ : List ℕ} {n r : ℕ} (bits : ℕ)
+    (server send : Bool) (password response out : List ℕ) → noStrength bits ≡ false → s ≡ strengthOf bits → role ≡ roleOf server
+    → direction ≡ directionOf send
     → key ≡ keyAnswer (firstOf (credentialRows password response)) (startKeyFrom s role direction password response) → n ≡ keyLength s
-    → (r ≡ given (key .answer) (take n (key .octets)) out .number) × (out′ ≡ given (key .answer) (take n (key .octets)) out .buffer)
-    → (r ≡ startKeyGiven bits server send password response out .number) × (out′ ≡ startKeyGiven bits server send password response out .buffer)
+    → Gave r out′ (given (key .answer) (take n (key .octets)) out) → Gave r out′ (startKeyGiven bits server send password response out)
 unfolding startKeyGiven startKeyFrom
 start-given {s} {role} {direction} {key} {n = n} bits server send password response out h es er ed ek en w =
     let k : List ℕ = startKeyFrom s role direction password response in
     let size : length k ≡ n = startKey-length s role direction (masterKeyFrom password response) ∙ sym en in
-    let same : given (key .answer) (take n (key .octets)) out ≡ given (firstOf (credentialRows password response)) k out =
-    rw ek (key-given (ltb longestPassword (length password)) (not (eqb (length password % 2) 0)) (wrong responseLength response) n k out size) in
+    let whole = key-given (tooLong password) (odd password) (wrong responseLength response) n k out size in
+    let same : given (key .answer) (take n (key .octets)) out ≡ given (firstOf (credentialRows password response)) k out = rw ek whole in
     told (same ∙ rw (h, es, er, ed)) w
 
 -- a new link, given over
-pub new-given : {s : Strength} {new : NewLink} {octets out′ : List ℕ} {r : ℕ} (bits : ℕ) (start out : List ℕ) → noStrength bits ≡ false → s ≡ strengthOf bits
-    → new ≡ newLink s start → octets ≡ recordOctets (new .link) → (r ≡ given (new .answer) octets out .number) × (out′ ≡ given (new .answer) octets out .buffer)
-    → (r ≡ newLinkGiven bits start out .number) × (out′ ≡ newLinkGiven bits start out .buffer)
+pub new-given : {s : Strength} {new : NewLink} {octets out′ : List ℕ} {r : ℕ} (bits : ℕ) (start out : List ℕ) → noStrength bits ≡ false
+    → s ≡ strengthOf bits → new ≡ newLink s start → octets ≡ recordOctets (new .link) → Gave r out′ (given (new .answer) octets out)
+    → Gave r out′ (newLinkGiven bits start out)
 unfolding newLinkGiven newLink
 new-given bits start out h es en eo w = told (rw (eo, en, es, h)) w
 
 -- a reply's option written
 pub choice-written : {number : ℕ} {strengths : Strengths} {out′ : List ℕ} (c : Choice) (out : List ℕ) → strengths ≡ only (c .strength)
     → (number ≡ writeNumber out) × (out′ ≡ writeOut (c .mode) strengths out)
-    → (number ≡ given done (choiceOctets c) out .number) × (out′ ≡ given done (choiceOctets c) out .buffer)
+    → Gave number out′ (given done (choiceOctets c) out)
 unfolding given choiceOctets optionOctets writeOut
 choice-written c out e w = (w .0, w .1 ∙ rw e)
 
@@ -198,8 +209,10 @@ pub choice-replied : {n number b : ℕ} (accept : Bool) (c : Choice) → number 
 unfolding choiceReply
 choice-replied accept c e h eb = rw (← e, h, eb)
 
-pub replied : {rep rep′ : CcpReply} {r : Reply} {out′ : List ℕ} (option : List ℕ) (allowed : Strengths) (out : List ℕ) → rep ≡ replyAnswer option allowed → rep ≡ rep′
-    → (r ≡ replyOf rep′ (given (numberOf rep′) (replyOctets rep′) out .number)) × (out′ ≡ given (numberOf rep′) (replyOctets rep′) out .buffer)
+pub replied : {rep rep′ : CcpReply} {r : Reply} {out′ : List ℕ} (option : List ℕ) (allowed : Strengths) (out : List ℕ)
+    → rep ≡ replyAnswer option allowed → rep ≡ rep′
+    → (r ≡ replyOf rep′ (given (numberOf rep′) (replyOctets rep′) out .number))
+    × (out′ ≡ given (numberOf rep′) (replyOctets rep′) out .buffer)
     → (r ≡ optionReply option allowed out) × (out′ ≡ optionGiven option allowed out .buffer)
 unfolding optionReply optionGiven
 replied option allowed out e e′ w = rw (sym e ∙ e′) w
@@ -223,12 +236,14 @@ pub held-length : {none : Bool} (octets : List ℕ) → none ≡ noRecord octets
 unfolding noRecord
 held-length octets e h = go (eqb (length octets) recordLength) refl (sym h ∙ e)
   where
-    go : (t : Bool) → eqb (length octets) recordLength ≡ t → false ≡ pick t (noStrength (getD octets 0 0)) true → length octets ≡ recordLength
+    go : (t : Bool) → eqb (length octets) recordLength ≡ t → false ≡ pick t (noStrength (getD octets 0 0)) true
+        → length octets ≡ recordLength
     go true q z = eqb-true (length octets) recordLength q
     go false q z = absurd (false≢true z)
 
 -- the record that octets hold
-pub record-read : {s : Strength} {start session : List ℕ} {count : ℕ} (octets : List ℕ) → s ≡ strengthOf (getD octets 0 0) → start ≡ take 16 (drop 1 octets)
+pub record-read : {s : Strength} {start session : List ℕ} {count : ℕ} (octets : List ℕ) → s ≡ strengthOf (getD octets 0 0)
+    → start ≡ take 16 (drop 1 octets)
     → session ≡ take 16 (drop 17 octets) → count ≡ getD octets 33 0 * 256 + getD octets 34 0
     → _≡_ {A = Link} (record { strength = s; start = start; session = session; count = count }) (recordIn octets)
 unfolding recordIn
@@ -245,7 +260,8 @@ two-octets n h =
     let low : n / 256 ^ 0 % 256 ≡ n % 256 = omega arith in
     rw (high, low)
 
-pub record-laid : {b : ℕ} {t₁ t₂ t₃ t₄ : List ℕ} (l : Link) → b ≡ bitsOf (l .strength) → t₁ ≡ writtenAt 0 (take 35 (b ∷ [])) (replicate 35 0)
+pub record-laid : {b : ℕ} {t₁ t₂ t₃ t₄ : List ℕ} (l : Link) → b ≡ bitsOf (l .strength)
+    → t₁ ≡ writtenAt 0 (take 35 (b ∷ [])) (replicate 35 0)
     → t₂ ≡ writtenAt 1 (take (length t₁ - 1) (l .start)) t₁ → t₃ ≡ writtenAt 17 (take (length t₂ - 17) (l .session)) t₂
     → t₄ ≡ writtenAt 33 (take (length t₃ - 33) (l .count / 256 ∷ l .count % 256 ∷ [])) t₃
     → length (l .start) ≡ 16 → length (l .session) ≡ 16 → l .count < 65536 → t₄ ≡ recordOctets l
@@ -255,16 +271,17 @@ record-laid {b} l eb e₁ e₂ e₃ e₄ hs hk hc =
     let g₂ = append-more (b ∷ []) (l .start) 1 34 g₁ e₂ refl (omega arith) in
     let g₃ = append-more (b ∷ l .start) (l .session) 17 (34 - length (l .start)) g₂ e₃ (omega arith) (omega arith) in
     let both : length ((b ∷ l .start) ++ l .session) ≡ 33 = length-append (b ∷ l .start) (l .session) ∙ omega arith in
-    let g₄ = append-more ((b ∷ l .start) ++ l .session) (l .count / 256 ∷ l .count % 256 ∷ []) 33 (34 - length (l .start) - length (l .session)) g₃ e₄ (sym both) (omega arith) in
-    let all : 34 - length (l .start) - length (l .session) - 2 ≡ 0 = omega arith in
-    let none : replicate {A = ℕ} (34 - length (l .start) - length (l .session) - 2) 0 ≡ [] = ap (λ n. replicate {A = ℕ} n 0) all in
-    let count : l .count / 256 ∷ l .count % 256 ∷ [] ≡ bigEndian 2 (l .count) = two-octets (l .count) hc in
-    let front : List ℕ = ((b ∷ l .start) ++ l .session) ++ (l .count / 256 ∷ l .count % 256 ∷ []) in
-    g₄ ∙ ap (λ z. front ++ z) none ∙ append-nil front ∙ rw (eb, count)
+    let left : ℕ = 34 - length (l .start) - length (l .session) in
+    let last : List ℕ = l .count / 256 ∷ l .count % 256 ∷ [] in
+    let g₄ = append-more ((b ∷ l .start) ++ l .session) last 33 left g₃ e₄ (sym both) (omega arith) in
+    let all : left - 2 ≡ 0 = omega arith in
+    let none : replicate {A = ℕ} (left - 2) 0 ≡ [] = ap (λ n. replicate {A = ℕ} n 0) all in
+    let front : List ℕ = ((b ∷ l .start) ++ l .session) ++ last in
+    g₄ ∙ ap (λ z. front ++ z) none ∙ append-nil front ∙ rw (eb, two-octets (l .count) hc)
 
 -- the record of a call written back
 pub record-put : {octets out′ : List ℕ} {r : ℕ} (code : ℕ) (l : Link) (out : List ℕ) → octets ≡ recordOctets l
-    → (r ≡ given code octets out .number) × (out′ ≡ given code octets out .buffer) → length octets ≡ recordLength → length out ≡ recordLength
+    → Gave r out′ (given code octets out) → length octets ≡ recordLength → length out ≡ recordLength
     → out′ ≡ onDone code (recordOctets l) out
 unfolding given
 record-put {octets} zero l out e w h h′ =
@@ -277,7 +294,8 @@ pub linked-none : {none : Bool} (call : Link → Result) (octets out : List ℕ)
 unfolding linked
 linked-none call octets out e h = rw (sym e ∙ h)
 
-pub linked-made : {none : Bool} {l : Link} {made : Outcome} {octets′ out′ : List ℕ} (call : Link → Result) (octets out : List ℕ) → none ≡ noRecord octets
+pub linked-made : {none : Bool} {l : Link} {made : Outcome} {octets′ out′ : List ℕ} (call : Link → Result) (octets out : List ℕ)
+    → none ≡ noRecord octets
     → none ≡ false → l ≡ recordIn octets → (made ≡ call l .outcome) × (out′ ≡ call l .buffer)
     → octets′ ≡ onDone (made .answer) (recordOctets (made .link)) octets
     → _≡_ {A = Linked} (record { number = made .answer; changed = made .changes; octets = octets′; buffer = out′ }) (linked call octets out)
@@ -288,7 +306,7 @@ linked-made call octets out e h el w eo = rw (sym e ∙ h, eo, w .0, w .1, el)
 pub seal-told : {l l′ : Linked} → l ≡ l′ → (l .number ≡ l′ .number) × (l .octets ≡ l′ .octets) × (l .buffer ≡ l′ .buffer)
 seal-told e = (ap (λ l. l .number) e, ap (λ l. l .octets) e, ap (λ l. l .buffer) e)
 
-pub open-told : {l l′ : Linked} → l ≡ l′
-    → (_≡_ {A = Opened} (record { answer = l .number; changes = l .changed }) (openedBy l′)) × (l .octets ≡ l′ .octets) × (l .buffer ≡ l′ .buffer)
+pub open-told : {l l′ : Linked} → l ≡ l′ → (_≡_ {A = Opened} (record { answer = l .number; changes = l .changed }) (openedBy l′))
+    × (l .octets ≡ l′ .octets) × (l .buffer ≡ l′ .buffer)
 unfolding openedBy
 open-told e = (ap openedBy e, ap (λ l. l .octets) e, ap (λ l. l .buffer) e)

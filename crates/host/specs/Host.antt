@@ -4,7 +4,7 @@ use mathlib.Core.List.{List, [], _∷_, _++_}
 use Prim.Native.Nat.{ℕ}
 use lib.Dec.{eqb, ltb}
 use lib.ListN.{length, take, drop, getD}
-use Rattle.answer.specs.Answer.{done, room, size, notRecord, strength, pick, firstOf, onDone, wrong}
+use Rattle.answer.specs.Answer.{room, size, notRecord, strength, pick, firstOf, onDone, wrong}
 use Rattle.octets.specs.Octets.{bigEndian, written}
 use Rattle.mschap.specs.declared.Checked.{Checked}
 use Rattle.mschap.specs.declared.NtResponse.{NtResponse}
@@ -47,7 +47,7 @@ unfoldable pub given : ℕ → List ℕ → List ℕ → Given
 given code result out =
     record { number = givenNumber code result out; buffer = onDone (givenNumber code result out) (written result out) out }
 
--- the two checks, in a struct that C has
+-- the answer of both checks, in a struct that C has
 unfoldable pub checkOf : Checked → Check
 checkOf c = record { answer = c .answer; yes = c .yes }
 
@@ -79,10 +79,11 @@ bindingKeyGiven material out =
     let a : Key = bindingKeyAnswer material in
     given (a .answer) (a .octets) out
 
--- the strength that has a number of bits, where one has
+-- the strength of a number of bits, where it is one
 abbrev pub strengthOf : ℕ → Strength
 strengthOf bits = pick (eqb bits 40) Bits40 (pick (eqb bits 56) Bits56 Bits128)
 
+-- a number that is the bits of no strength
 abbrev pub noStrength : ℕ → Bool
 noStrength bits = not (eqb bits (bitsOf (strengthOf bits)))
 
@@ -93,10 +94,11 @@ masterKeyFrom password response = masterKey (hashHash (passwordHash password)) r
 unfoldable pub startKeyFrom : Strength → Role → Direction → List ℕ → List ℕ → List ℕ
 startKeyFrom s role direction password response = startKey s role direction (masterKeyFrom password response)
 
+-- "Password: 0 to 512 octets, even"; "NT-Response: 24"
 abbrev pub credentialRows : List ℕ → List ℕ → List (ℕ × Bool)
 credentialRows password response = passwordRows password ++ (size, wrong responseLength response) ∷ []
 
--- a number that is no strength is 8, before all else
+-- 8 where the number is no strength (house), before all else
 unfoldable pub startKeyGiven : ℕ → Bool → Bool → List ℕ → List ℕ → List ℕ → Given
 startKeyGiven bits server send password response out =
     given (firstOf ((strength, noStrength bits) ∷ credentialRows password response))
@@ -120,6 +122,10 @@ replyOf (Accept c) number = choiceReply true c number
 replyOf (CounterOffer c) number = choiceReply false c number
 replyOf (Refused refusal) number = record { answer = number; accept = false; bits = 0 }
 
+-- the strengths that a policy allows, by a yes or no for each
+abbrev pub allowedOf : Bool → Bool → Bool → Strengths
+allowedOf bits40 bits56 bits128 = record { bits40 = bits40; bits56 = bits56; bits128 = bits128 }
+
 -- "Option reply: 1, 8", then 2
 unfoldable pub optionGiven : List ℕ → Strengths → List ℕ → Given
 optionGiven option allowed out = given (numberOf (replyAnswer option allowed)) (replyOctets (replyAnswer option allowed)) out
@@ -127,7 +133,8 @@ optionGiven option allowed out = given (numberOf (replyAnswer option allowed)) (
 unfoldable pub optionReply : List ℕ → Strengths → List ℕ → Reply
 optionReply option allowed out = replyOf (replyAnswer option allowed) (optionGiven option allowed out .number)
 
--- a link record in octets: "strength, start key, session key, last count; 16 places a key"; the strength in bits, the count's highest octet first
+-- a link record in octets: "strength, start key, session key, last count; 16 places a key"; the strength in bits, the count's
+-- highest octet first
 abbrev pub recordLength : ℕ
 recordLength = 35
 
@@ -144,11 +151,11 @@ recordIn octets =
       count = pairAt 33 octets;
     }
 
--- octets that hold none: not 35, or the first is no strength
+-- octets that hold none: they are not 35, or the first is no strength
 unfoldable pub noRecord : List ℕ → Bool
 noRecord octets = pick (eqb (length octets) recordLength) (noStrength (getD octets 0 0)) true
 
--- a new link: 8 where the number is no strength, before all else; "Start key: 16 at 128 bits, else 8"
+-- a new link: 8 where the number is no strength (house), before all else; "Start key: 16 at 128 bits, else 8"
 unfoldable pub newLinkGiven : ℕ → List ℕ → List ℕ → Given
 newLinkGiven bits start out =
     given (firstOf ((strength, noStrength bits) ∷ (size, wrong (keyLength (strengthOf bits)) start) ∷ []))

@@ -7,7 +7,7 @@ ghost use Rattle.answer.specs.Answer.{done, firstOf, onDone};
 ghost use Rattle.mschap.specs.Answers.{checkResponseAnswer, checkAuthenticatorAnswer};
 ghost use Rattle.mppe_keys.specs.Keys.{bitsOf};
 ghost use Rattle.mppe_keys.specs.Answers.{keyAnswer};
-ghost use Rattle.host.specs.Host.{given, checkOf, ntResponseGiven, authenticatorStringGiven, roleOf, directionOf, baseKeyGiven, bindingKeyGiven, strengthOf, noStrength, startKeyFrom, masterKeyFrom, credentialRows, startKeyGiven, choiceOctets, optionGiven, optionReply, choiceReply, recordLength, recordOctets, recordIn, noRecord, newLinkGiven, sealLinked, openLinked, openedBy};
+ghost use Rattle.host.specs.Host.{given, checkOf, ntResponseGiven, authenticatorStringGiven, roleOf, directionOf, baseKeyGiven, bindingKeyGiven, strengthOf, noStrength, startKeyFrom, masterKeyFrom, credentialRows, startKeyGiven, choiceOctets, allowedOf, optionGiven, optionReply, choiceReply, recordLength, recordOctets, recordIn, noRecord, newLinkGiven, sealLinked, openLinked, openedBy};
 use ccp::Choice;
 use ccp::Strengths;
 use mppe::Link;
@@ -66,8 +66,10 @@ pub extern "C" fn udukemb_nt_response(
     password: &[u8],
     out: &mut [u8],
 ) -> u8
-    ensures { λ r. ⌜ (r ≡ ntResponseGiven (now (authenticator .entry)) (now (peer .entry)) (now (name .entry)) (now (password .entry)) (now (out .entry)) .number)
-        × (now (out .exit) ≡ ntResponseGiven (now (authenticator .entry)) (now (peer .entry)) (now (name .entry)) (now (password .entry)) (now (out .entry)) .buffer) ⌝ }
+    ensures { λ r. ⌜ (r ≡ ntResponseGiven (now (authenticator .entry)) (now (peer .entry)) (now (name .entry)) (now (password .entry))
+        (now (out .entry)) .number)
+        × (now (out .exit) ≡ ntResponseGiven (now (authenticator .entry)) (now (peer .entry)) (now (name .entry)) (now (password .entry))
+        (now (out .entry)) .buffer) ⌝ }
 {
     let response = mschap::nt_response(authenticator, peer, name, password);
     let octets = response.octets;
@@ -84,10 +86,10 @@ pub extern "C" fn udukemb_authenticator_string(
     name: &[u8],
     out: &mut [u8],
 ) -> u8
-    ensures { λ r. ⌜ (r ≡ authenticatorStringGiven (now (password .entry)) (now (response .entry)) (now (peer .entry)) (now (authenticator .entry))
-        (now (name .entry)) (now (out .entry)) .number)
-        × (now (out .exit) ≡ authenticatorStringGiven (now (password .entry)) (now (response .entry)) (now (peer .entry)) (now (authenticator .entry))
-        (now (name .entry)) (now (out .entry)) .buffer) ⌝ }
+    ensures { λ r. ⌜ (r ≡ authenticatorStringGiven (now (password .entry)) (now (response .entry)) (now (peer .entry))
+        (now (authenticator .entry)) (now (name .entry)) (now (out .entry)) .number)
+        × (now (out .exit) ≡ authenticatorStringGiven (now (password .entry)) (now (response .entry)) (now (peer .entry))
+        (now (authenticator .entry)) (now (name .entry)) (now (out .entry)) .buffer) ⌝ }
 {
     let string = mschap::authenticator_string(password, response, peer, authenticator, name);
     let octets = string.octets;
@@ -170,8 +172,8 @@ pub extern "C" fn udukemb_option_reply(
     bits128: bool,
     out: &mut [u8],
 ) -> Reply
-    ensures { λ r. ⌜ (r ≡ optionReply (now (option .entry)) (record { bits40 = bits40; bits56 = bits56; bits128 = bits128 }) (now (out .entry)))
-        × (now (out .exit) ≡ optionGiven (now (option .entry)) (record { bits40 = bits40; bits56 = bits56; bits128 = bits128 }) (now (out .entry)) .buffer) ⌝ }
+    ensures { λ r. ⌜ (r ≡ optionReply (now (option .entry)) (allowedOf bits40 bits56 bits128) (now (out .entry)))
+        × (now (out .exit) ≡ optionGiven (now (option .entry)) (allowedOf bits40 bits56 bits128) (now (out .entry)) .buffer) ⌝ }
 {
     let allowed = Strengths {
         bits40,

@@ -16,7 +16,8 @@ same-length : tie.Need-same-length
 same-length c = search needs
 
 returns-3 : tie.Need-returns-3
-returns-3 c = given-done _ _ _ (c .before .before .before .before .before .if1 .left) (c .before .before .before .before .if2 .left) (c .before .before .copy .ensures)
+returns-3 c = let tested = c .before .before .before .before in
+    given-done _ _ _ (tested .before .if1 .left) (tested .if2 .left) (c .before .before .copy .ensures)
 
 pub give-spec : {M : Type 1} → statement M
 give-spec = tie.close (tie.spec returns returns-2 copy-requires same-length returns-3)

@@ -17,7 +17,8 @@ same-length : tie.Need-same-length
 same-length c = search needs
 
 returns : tie.Need-returns
-returns c = record-put _ _ _ (c .before .before .before .before .before .record-octets .ensures) (c .before .before .give .ensures) (omega arith) (omega arith)
+returns c = let given = c .before .before in
+    record-put _ _ _ (given .before .before .before .record-octets .ensures) (given .give .ensures) (omega arith) (omega arith)
 
 pub put-record-spec : {M : Type 1} → statement M
 put-record-spec =

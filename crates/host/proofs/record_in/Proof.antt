@@ -43,7 +43,9 @@ pair-requires : tie.Need-pair-requires
 pair-requires c κs = search needs
 
 returns : tie.Need-returns
-returns c = record-read _ (c .before .before .before .before .before .before .before .strength-of .ensures) (c .before .before .before .before .before .places .ensures) (c .before .before .before .places2 .ensures) (c .pair .ensures)
+returns c = let session = c .before .before .before in
+    let start = session .before .before in
+    record-read _ (start .before .before .strength-of .ensures) (start .places .ensures) (session .places2 .ensures) (c .pair .ensures)
 
 pub record-in-spec : {M : Type 1} → statement M
 record-in-spec =

@@ -52,11 +52,16 @@ copy-at-requires-4 : tie.Need-copy-at-requires-4
 copy-at-requires-4 c κs = search needs
 
 returns : tie.Need-returns
-returns c = let l = c .before .before .before .before .before .before .before .before .before .before .before .before .before .before .before .before .before .before .before .args .link in
+returns c = let l = c .before .before .before .before .before .before .before .before .before .before .before .before
+    .before .before .before .before .before .before .before .args .link in
     let start : length (l .start) ≡ 16 = search needs in
     let session : length (l .session) ≡ 16 = search needs in
     let count : l .count < 65536 = search needs in
-    record-laid l (c .before .before .before .before .before .before .before .before .before .before .before .before .before .before .before .before .bits-of .ensures) (c .before .before .before .before .before .before .before .before .before .before .before .before .before .copy-at .ensures) (c .before .before .before .before .before .before .before .before .before .copy-at2 .ensures) (c .before .before .before .before .before .copy-at3 .ensures) (c .before .copy-at4 .ensures) start session count
+    let third = c .before .before .before .before .before in
+    let second = third .before .before .before .before in
+    let first = second .before .before .before .before in
+    record-laid l (first .before .before .before .bits-of .ensures) (first .copy-at .ensures) (second .copy-at2 .ensures)
+    (third .copy-at3 .ensures) (c .before .copy-at4 .ensures) start session count
 
 pub record-octets-spec : {M : Type 1} → statement M
 record-octets-spec =

@@ -1,4 +1,3 @@
-use borrow.Author.Needs.{needs}
 use Rattle.host.proofs.Laws.{bits-40, bits-56, bits-128}
 use Rattle.host.proofs.strength_of.Statement.{statement}
 use Rattle.host.proofs.strength_of.Tie as tie

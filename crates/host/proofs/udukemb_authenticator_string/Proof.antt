@@ -18,7 +18,8 @@ same-length c = search needs
 
 returns : tie.Need-returns
 unfolding authenticatorStringGiven
-returns c = handed (λ a. a .answer) (λ a. a .octets) _ (c .before .before .before .before .before .before .authenticator-string .ensures) (c .before .before .give .ensures)
+returns c = let given = c .before .before in
+    handed (λ a. a .answer) (λ a. a .octets) _ (given .before .before .before .before .authenticator-string .ensures) (given .give .ensures)
 
 pub udukemb-authenticator-string-spec : {M : Type 1} → statement M
 udukemb-authenticator-string-spec =

@@ -23,7 +23,11 @@ same-length c = search needs
 
 returns : tie.Need-returns
 unfolding baseKeyGiven
-returns c = handed (λ a. a .answer) (λ a. a .octets) _ (c .before .before .before .before .before .before .base-key .ensures ∙ ap (λ r. baseKeyAnswer r (c .before .before .before .before .before .before .before .before .before .before .before .args .send .now) (c .before .before .before .before .before .before .before .before .before .before .before .args .receive .now)) (c .before .before .before .before .before .before .before .role-of .ensures)) (c .before .before .give .ensures)
+returns c = let given = c .before .before in
+    let made = given .before .before .before .before in
+    let a = made .before .before .before .before .before .args in
+    let said = made .base-key .ensures ∙ ap (λ r. baseKeyAnswer r (a .send .now) (a .receive .now)) (made .before .role-of .ensures) in
+    handed (λ a. a .answer) (λ a. a .octets) _ said (given .give .ensures)
 
 pub udukemb-base-key-spec : {M : Type 1} → statement M
 udukemb-base-key-spec =

@@ -18,7 +18,8 @@ same-length c = search needs
 
 returns : tie.Need-returns
 unfolding bindingKeyGiven
-returns c = handed (λ a. a .answer) (λ a. a .octets) _ (c .before .before .before .before .before .before .binding-key .ensures) (c .before .before .give .ensures)
+returns c = let given = c .before .before in
+    handed (λ a. a .answer) (λ a. a .octets) _ (given .before .before .before .before .binding-key .ensures) (given .give .ensures)
 
 pub udukemb-binding-key-spec : {M : Type 1} → statement M
 udukemb-binding-key-spec =

@@ -31,7 +31,11 @@ same-length : tie.Need-same-length
 same-length c = search needs
 
 returns-2 : tie.Need-returns-2
-returns-2 c = new-given _ _ _ (sym (c .before .before .before .before .before .before .before .before .before .before .no-strength .ensures) ∙ c .before .before .before .before .before .before .before .before .before .if1 .left) (c .before .before .before .before .before .before .before .before .strength-of .ensures) (c .before .before .before .before .before .before .before .new .ensures) (c .before .before .before .before .before .record-octets .ensures) (c .before .before .give .ensures)
+returns-2 c = let given = c .before .before in
+    let made = given .before .before .before .before .before in
+    let tested = made .before .before in
+    new-given _ _ _ (sym (tested .before .no-strength .ensures) ∙ tested .if1 .left) (made .before .strength-of .ensures)
+    (made .new .ensures) (given .before .before .before .record-octets .ensures) (given .give .ensures)
 
 pub udukemb-new-link-spec : {M : Type 1} → statement M
 udukemb-new-link-spec =

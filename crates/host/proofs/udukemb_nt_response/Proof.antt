@@ -18,7 +18,8 @@ same-length c = search needs
 
 returns : tie.Need-returns
 unfolding ntResponseGiven
-returns c = handed (λ a. a .answer) (λ a. a .octets) _ (c .before .before .before .before .before .before .nt-response .ensures) (c .before .before .give .ensures)
+returns c = let given = c .before .before in
+    handed (λ a. a .answer) (λ a. a .octets) _ (given .before .before .before .before .nt-response .ensures) (given .give .ensures)
 
 pub udukemb-nt-response-spec : {M : Type 1} → statement M
 udukemb-nt-response-spec =

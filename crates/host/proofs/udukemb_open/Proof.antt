@@ -21,7 +21,8 @@ open-requires : tie.Need-open-requires
 open-requires c κs = search needs
 
 put-record-requires : tie.Need-put-record-requires
-put-record-requires c κs = held-length _ (c .before .before .before .before .before .before .before .before .no-record .ensures) (c .before .before .before .before .before .before .before .if1 .left)
+put-record-requires c κs = let tested = c .before .before .before .before .before .before .before in
+    held-length _ (tested .before .no-record .ensures) (tested .if1 .left)
 
 same-length-2 : tie.Need-same-length-2
 same-length-2 c = search needs
@@ -31,7 +32,13 @@ same-length-3 c = search needs
 
 returns-2 : tie.Need-returns-2
 unfolding openLinked
-returns-2 c = open-told (linked-made _ _ _ (c .before .before .before .before .before .before .before .before .before .before .before .no-record .ensures) (c .before .before .before .before .before .before .before .before .before .before .if1 .left) (c .before .before .before .before .before .before .before .before .record-in .ensures) (c .before .before .before .before .before .before .open .ensures) (c .before .before .put-record .ensures))
+returns-2 c = let put = c .before .before in
+    let made = put .before .before .before .before in
+    let read = made .before .before in
+    let tested = read .before .before in
+    open-told
+    (linked-made _ _ _ (tested .before .no-record .ensures) (tested .if1 .left) (read .record-in .ensures) (made .open .ensures)
+    (put .put-record .ensures))
 
 pub udukemb-open-spec : {M : Type 1} → statement M
 udukemb-open-spec =

@@ -34,16 +34,21 @@ key-length-requires : tie.Need-key-length-requires
 key-length-requires c κs = search needs
 
 array-share-prefix-octets : tie.Need-array-share-prefix-octets
-array-share-prefix-octets c = let s = c .before .before .before .before .before .strength-of .result in let key = c .before .before .start-key-from .result .octets in
+array-share-prefix-octets c = let len = c .before .key-length in
+    let key = c .before .before .start-key-from .result .octets in
+    let s = c .before .before .before .before .before .strength-of .result in
     let all : length key ≡ 16 = search needs in
-    let n : c .before .key-length .result ≡ keyLength s = c .before .key-length .ensures in
-    let fits : c .before .key-length .result ≤ length key = omega (arith, key-most s) in fits
+    let n : len .result ≡ keyLength s = len .ensures in
+    let fits : len .result ≤ length key = omega (arith, key-most s) in
+    fits
 
 slice-aggregate-give : tie.Need-slice-aggregate-give
-slice-aggregate-give c = let s = c .before .before .before .before .before .before .strength-of .result in let key = c .before .before .before .start-key-from .result .octets in
+slice-aggregate-give c = let len = c .before .before .key-length in
+    let key = c .before .before .before .start-key-from .result .octets in
+    let s = c .before .before .before .before .before .before .strength-of .result in
     let all : length key ≡ 16 = search needs in
-    let n : c .before .before .key-length .result ≡ keyLength s = c .before .before .key-length .ensures in
-    count (c .before .before .key-length .result) key (omega (arith, key-most s))
+    let n : len .result ≡ keyLength s = len .ensures in
+    count (len .result) key (omega (arith, key-most s))
 
 give-requires : tie.Need-give-requires
 give-requires c κs = search needs
@@ -52,7 +57,13 @@ same-length : tie.Need-same-length
 same-length c = search needs
 
 returns-2 : tie.Need-returns-2
-returns-2 c = start-given _ _ _ (c .before .before .before .before .before .before .before .before .before .before .before .before .before .before .before .before .args .password .now) (c .before .before .before .before .before .before .before .before .before .before .before .before .before .before .before .before .args .response .now) _ (sym (c .before .before .before .before .before .before .before .before .before .before .before .before .no-strength .ensures) ∙ c .before .before .before .before .before .before .before .before .before .before .before .if1 .left) (c .before .before .before .before .before .before .before .before .before .before .strength-of .ensures) (c .before .before .before .before .before .before .before .before .before .role-of .ensures) (c .before .before .before .before .before .before .before .before .direction-of .ensures) (c .before .before .before .before .before .before .before .start-key-from .ensures) (c .before .before .before .before .before .before .key-length .ensures) (c .before .before .give .ensures)
+returns-2 c = let given = c .before .before in
+    let made = given .before .before .before .before .before in
+    let tested = made .before .before .before .before in
+    let a = tested .before .before .before .before .before .args in
+    start-given _ _ _ (a .password .now) (a .response .now) _ (sym (tested .before .no-strength .ensures) ∙ tested .if1 .left)
+    (made .before .before .before .strength-of .ensures) (made .before .before .role-of .ensures) (made .before .direction-of .ensures)
+    (made .start-key-from .ensures) (given .before .before .before .before .key-length .ensures) (given .give .ensures)
 
 pub udukemb-start-key-spec : {M : Type 1} → statement M
 udukemb-start-key-spec =

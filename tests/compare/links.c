@@ -1,0 +1,161 @@
+/* See links.h. */
+#include "links.h"
+
+#include <string.h>
+
+enum { COUNTS = 4096 };
+
+/* A number for a strength in bits, also one that is none. */
+unsigned make_bits(void)
+{
+    return one_in(12) ? (unsigned)below(256) : strength_bits((unsigned)below(3));
+}
+
+/* Octets as a buffer. */
+buffer whole(octets *o)
+{
+    buffer b = {o->at, o->n};
+
+    return b;
+}
+
+/* Octets as an input. */
+part part_of(const octets *o)
+{
+    part p = {o->at, o->n};
+
+    return p;
+}
+
+/* Sets a record's count. */
+static void set_count(octets *record, size_t count)
+{
+    record->at[AT_COUNT] = (octet)(count / 256);
+    record->at[AT_COUNT + 1] = (octet)(count % 256);
+}
+
+/* A record's count. */
+static unsigned count_of(const octets *record)
+{
+    return 256u * record->at[AT_COUNT] + record->at[AT_COUNT + 1];
+}
+
+/* The record of a new link. */
+void make_begin(octets *record)
+{
+    static octets start;
+    unsigned bits = strength_bits((unsigned)below(3));
+
+    fill(&start, key_length(bits));
+    fill(record, RECORD_OCTETS);
+    oracle_new_link((octet)bits, part_of(&start), whole(record));
+}
+
+/* A record, well formed but hand-made: any session key that reduce leaves, any count, often near the wrap. */
+void make_right_record(octets *record)
+{
+    octet session[KEY_PLACES];
+    unsigned bits;
+
+    make_begin(record);
+    bits = record->at[0];
+    for (size_t k = 0; k < key_length(bits); k++)
+        record->at[AT_SESSION + k] = (octet)below(256);
+    part key = {record->at + AT_SESSION, key_length(bits)};
+    oracle_reduce(bits, key, session);
+    memcpy(record->at + AT_SESSION, session, KEY_PLACES);
+    set_count(record, one_in(3) ? (COUNTS - 3 + below(6)) % COUNTS : below(COUNTS));
+}
+
+/* One damage to a record: strength, places behind a key, the session key's front, count, length, or all of it. */
+void damage_record(octets *record)
+{
+    switch (below(6)) {
+    case 0:
+        record->at[0] = (octet)make_bits();
+        break;
+    case 1:
+        record->at[AT_START + (one_in(2) ? 8 : 24) + below(8)] = (octet)below(3);
+        break;
+    case 2:
+        record->at[AT_SESSION + below(3)] ^= (octet)(1 << below(8));
+        break;
+    case 3:
+        set_count(record, one_in(2) ? COUNTS - 1 + below(3) : below(65536));
+        break;
+    case 4:
+        record->n = one_in(2) ? below(80) : one_in(2) ? RECORD_OCTETS - 1 : RECORD_OCTETS + 1;
+        break;
+    default:
+        fill(record, RECORD_OCTETS);
+        record->at[0] = (octet)strength_bits((unsigned)below(3));
+    }
+}
+
+/* A plain packet: its protocol number mostly one that is carried, often at the limits. */
+void make_plain(octets *plain)
+{
+    static const octet edges[] = {0x20, 0x21, 0xFA, 0xFB};
+
+    fill(plain, within(SHORTEST_PLAIN, LONGEST_PLAIN));
+    if (plain->n < SHORTEST_PLAIN)
+        return;
+    plain->at[0] = one_in(20) ? (octet)below(3) : 0;
+    plain->at[1] = one_in(6) ? edges[below(4)] : one_in(20) ? (octet)below(256) : (octet)(0x21 + below(0xDA));
+}
+
+/* The packet that a record's sender seals a distance after it. */
+static void make_sealed(const octets *record, unsigned distance, octets *packet)
+{
+    static octets sender, plain;
+    size_t n = key_length(record->at[0]);
+    part start = {sender.at + AT_START, n}, session = {record->at + AT_SESSION, n};
+    octet key[KEY_PLACES];
+
+    copy(&sender, record);
+    oracle_key_changes(record->at[0], start, session, distance - 1, key);
+    memcpy(sender.at + AT_SESSION, key, KEY_PLACES);
+    set_count(&sender, (count_of(record) + distance - 1) % COUNTS);
+    make_plain(&plain);
+    fill(packet, FRONT + plain.n);
+    oracle_seal(whole(&sender), part_of(&plain), whole(packet));
+}
+
+/* One damage to a packet: its first octets, its flags, its count, an octet of its data, its protocol number, or its length. */
+void damage_arriving(const octets *record, octets *packet)
+{
+    switch (below(7)) {
+    case 0:
+        packet->at[below(2)] ^= (octet)(1 << below(8));
+        break;
+    case 1:
+        packet->at[2] ^= (octet)(0x10 << below(4));
+        break;
+    case 2:
+        packet->at[2] = (octet)((packet->at[2] & 0xF0) | (count_of(record) / 256 % 16));
+        packet->at[3] = (octet)count_of(record);
+        break;
+    case 3:
+        packet->at[below(packet->n)] ^= (octet)(1 << below(8));
+        break;
+    case 4:
+        packet->at[FRONT + below(2)] ^= (octet)(1 << below(8));
+        break;
+    case 5:
+        packet->n = below(9);
+        break;
+    default:
+        fill(packet, one_in(2) ? FRONT + LONGEST_PLAIN + below(3) : below(40));
+        memcpy(packet->at, "\x00\xFD\x90\x00", FRONT);
+    }
+}
+
+/* A packet for a record, damaged in none, one or several ways. */
+void make_arriving(const octets *record, octets *packet)
+{
+    unsigned distance = 1 + (unsigned)(one_in(60) ? below(COUNTS - 1) : one_in(3) ? below(20) : 0);
+
+    make_sealed(record, distance, packet);
+    for (bool more = one_in(2); more && packet->n > FRONT + 2; more = one_in(3))
+        damage_arriving(record, packet);
+}
