@@ -21,8 +21,10 @@ uint8_t bench_hmac_sha256(const octet *key, size_t k, const octet *text, size_t 
 uint8_t bench_des(const octet *key, size_t k, const octet *block, size_t n, octet *out, size_t room);
 uint8_t bench_rc4(const octet *key, size_t k, const octet *text, size_t n, octet *out, size_t room);
 uint8_t bench_key_changes(const octet *start, size_t a, const octet *session, size_t b, size_t n, octet *out, size_t room);
-uint8_t bench_seal(const octet *start, size_t a, const octet *session, size_t b, uint16_t count, const octet *plain, size_t n, octet *out, size_t room);
-uint8_t bench_open(const octet *start, size_t a, const octet *session, size_t b, uint16_t count, const octet *packet, size_t n, octet *out, size_t room);
+uint8_t bench_seal(const octet *start, size_t a, const octet *session, size_t b, uint16_t count, const octet *plain, size_t n,
+                   octet *out, size_t room);
+uint8_t bench_open(const octet *start, size_t a, const octet *session, size_t b, uint16_t count, const octet *packet, size_t n,
+                   octet *out, size_t room);
 
 enum { BURSTS = 400, LONGEST = 65535 };
 

@@ -37,14 +37,13 @@ static void link_octets(const struct link *l, octet *out)
     out[34] = l->count & 255;
 }
 
-static struct link show(const char *label, size_t number, struct outcome o, const octet *out, size_t room)
+static void show(const char *label, size_t number, struct outcome o, const octet *out, size_t room)
 {
     octet record[35];
 
     numbered(label, number, o.answer, out, room);
     link_octets(&o.link, record);
     numbered("link", o.changes, o.answer, record, sizeof record);
-    return o.link;
 }
 
 static void show_digest(const char *label, size_t number, struct outcome o, const octet *out, size_t room)
@@ -205,16 +204,6 @@ static struct link fresh(int bits)
     return new_link(bits, start_key, length_of(bits)).link;
 }
 
-static struct link show_seal(const char *label, size_t number, struct link l, const octet *plain, size_t n, octet *out, size_t room)
-{
-    return show(label, number, seal(l, plain, n, out, room), out, room);
-}
-
-static struct link show_open(const char *label, size_t number, struct link l, const octet *packet, size_t n, octet *out, size_t room)
-{
-    return show(label, number, open_packet(l, packet, n, out, room), out, room);
-}
-
 static void new_links(int bits)
 {
     octet record[35];
@@ -222,30 +211,22 @@ static void new_links(int bits)
     for (size_t n = 0; n <= sizeof start_key; n++) {
         struct outcome o = new_link(bits, start_key, n);
         link_octets(&o.link, record);
-        numbered("new link of octets", n, o.answer, record, sizeof record);
+        numbered("link", n, o.answer, record, sizeof record);
     }
 }
 
-/* The message behind a protocol number, sealed and opened twice; the message alone, and RFC 3079's own packet of it. */
-static void messages(int bits)
+/* RFC 3079's own octets of the message behind a header: they are under the initial session key, which no packet has. */
+static void sample(int bits)
 {
     static const octet samples[3][12] = {
         {0x92, 0x91, 0x37, 0x91, 0x7E, 0x58, 0x03, 0xD6, 0x68, 0xD7, 0x58, 0x98},
         {0x3F, 0x10, 0x68, 0x33, 0xFA, 0x44, 0x8D, 0xA8, 0x42, 0xBC, 0x57, 0xB8},
         {0x81, 0x84, 0x83, 0x17, 0xDF, 0x68, 0x84, 0x62, 0x72, 0xFB, 0x5A, 0xBE}};
-    octet wire[18], out[14], sample[16] = {0x00, 0xFD, 0x90, 0x00};
-    struct link l = fresh(bits), r = l;
+    octet out[14], packet[16] = {0x00, 0xFD, 0x90, 0x00};
 
-    for (size_t k = 0; k < 2; k++) {
-        l = show_seal("message sealed", k, l, message, sizeof message, wire, sizeof wire);
-        memset(out, 0xEE, sizeof out);
-        r = show_open("message opened", k, r, wire, sizeof wire, out, sizeof out);
-    }
+    memcpy(packet + 4, samples[bits == 40 ? 0 : bits == 56 ? 1 : 2], 12);
     memset(out, 0xEE, sizeof out);
-    show_seal("message with no protocol", 0, l, message + 2, 12, out, sizeof out);
-    memcpy(sample + 4, samples[bits == 40 ? 0 : bits == 56 ? 1 : 2], 12);
-    memset(out, 0xEE, sizeof out);
-    show_open("message under the initial session key", 0, fresh(bits), sample, sizeof sample, out, sizeof out);
+    show("message under the initial session key", 0, open_packet(fresh(bits), packet, sizeof packet, out, sizeof out), out, sizeof out);
 }
 
 /* A link with a count made by hand, that many packets sealed, and the last of them opened by one with the first count. */
@@ -261,52 +242,19 @@ static void ahead(int bits, unsigned last, size_t packets)
     for (size_t k = 0; k < packets; k++)
         l = seal(l, message, sizeof message, wire, sizeof wire).link;
     numbered("last count", last, 0, wire, sizeof wire);
-    show_open("opened after packets", packets, r, wire, sizeof wire, out, sizeof out);
+    show("opened after packets", packets, open_packet(r, wire, sizeof wire, out, sizeof out), out, sizeof out);
 }
 
 static void distances(int bits)
 {
     ahead(bits, 4095, 1);
+    ahead(bits, 4095, 2);
     ahead(bits, 255, 1);
     ahead(bits, 4094, 1);
     ahead(bits, 2, 3);
     ahead(bits, 4094, 3);
     ahead(bits, 0, 4095);
     ahead(bits, 7, 4096);
-}
-
-/* Every set of seal's rows: 1 record, 2 size, 4 protocol, 8 room. */
-static void seal_rows(int bits)
-{
-    for (size_t set = 0; set < 16; set++) {
-        octet plain[1499] = {0}, out[1503];
-        struct link l = fresh(bits);
-        size_t n = set & 2 ? 1499 : 14;
-
-        l.count += set & 1 ? 4096 : 0;
-        plain[1] = set & 4 ? 0x20 : 0x21;
-        memset(out, 0xEE, sizeof out);
-        show_digest("seal, rows", set, seal(l, plain, n, out, n + (set & 8 ? 3 : 4)), out, sizeof out);
-    }
-}
-
-/* Every set of open's rows: 1 record, 2 shape, 4 flags, 8 repeat, 16 room, 32 protocol. */
-static void open_rows(int bits)
-{
-    for (size_t set = 0; set < 64; set++) {
-        octet wire[18], out[16];
-        struct link l = fresh(bits);
-
-        seal(l, message, sizeof message, wire, sizeof wire);
-        memset(out, 0xEE, sizeof out);
-        l.count += set & 1 ? 4096 : 0;
-        wire[0] ^= set & 2 ? 0x01 : 0;
-        wire[2] ^= set & 4 ? 0x90 : 0;
-        wire[2] ^= set & 8 ? 0x0F : 0;
-        wire[3] ^= set & 8 ? 0xFF : 0;
-        wire[4] ^= set & 32 ? 0xFF : 0;
-        show("open, rows", set, open_packet(l, wire, sizeof wire, out, set & 16 ? 13 : 14), out, sizeof out);
-    }
 }
 
 /* Record number v: one place of a key altered, another count, or a refused new link. */
@@ -327,104 +275,95 @@ static struct link altered(struct link l, size_t v)
     return l;
 }
 
-static void records(int bits)
-{
-    for (size_t v = 0; v < 36; v++) {
-        octet wire[18], sealed[18], out[14];
-        struct link l = altered(fresh(bits), v);
+enum { LENT = 1600 };
 
-        seal(fresh(bits), message, sizeof message, wire, sizeof wire);
-        memset(sealed, 0xEE, sizeof sealed);
-        memset(out, 0xEE, sizeof out);
-        show_seal("seal with record", v, l, message, sizeof message, sealed, sizeof sealed);
-        show_open("open with record", v, l, wire, sizeof wire, out, sizeof out);
-    }
+/* A message sealed and the first packet of a new link opened, both with one record. The sealed packet has `given` octets and its
+   buffer `room`; bits of its first six octets are turned over, the last two of which are the protocol number. */
+static void both(int bits, size_t number, struct link l, size_t given, size_t room, const octet *mask)
+{
+    octet plain[LENT] = {0}, wire[LENT], out[LENT];
+
+    memcpy(plain, message, sizeof message);
+    memset(wire, 0xEE, LENT);
+    seal(fresh(bits), plain, 1498, wire, LENT);
+    for (int k = 0; k < 6; k++)
+        wire[k] ^= mask[k];
+    plain[0] ^= mask[4];
+    plain[1] ^= mask[5];
+    memset(out, 0xEE, LENT);
+    show_digest("seal", number, seal(l, plain, given - 4, out, room), out, LENT);
+    memset(out, 0xEE, LENT);
+    show_digest("open", number, open_packet(l, wire, given, out, room - 4), out, LENT);
 }
 
-static void rooms(int bits)
+/* Every set of rows: 1 record, 2 size and shape, 4 flags, 8 repeat, 16 room, 32 protocol. */
+static void rows_of(int bits)
 {
-    for (size_t room = 0; room < 21; room++) {
-        octet wire[18], sealed[20], out[20];
+    for (size_t set = 0; set < 64; set++) {
+        octet mask[6] = {0, 0, (set & 4 ? 0x90 : 0) ^ (set & 8 ? 0x0F : 0), set & 8 ? 0xFF : 0, set & 32 ? 0xFF : 0, 0};
+        size_t given = set & 2 ? 1503 : 18;
         struct link l = fresh(bits);
 
-        seal(l, message, sizeof message, wire, sizeof wire);
-        memset(sealed, 0xEE, sizeof sealed);
-        memset(out, 0xEE, sizeof out);
-        show("seal, room", room, seal(l, message, sizeof message, sealed, room), sealed, sizeof sealed);
-        show("open, room", room, open_packet(l, wire, sizeof wire, out, room), out, sizeof out);
-    }
-}
-
-static void lengths(int bits, size_t from, size_t to)
-{
-    for (size_t n = from; n < to; n++) {
-        octet plain[1504] = {0}, wire[1504], sealed[1510], out[1504];
-        struct link l = fresh(bits);
-
-        plain[1] = 0x21;
-        memset(wire, 0xEE, sizeof wire);
-        memset(sealed, 0xEE, sizeof sealed);
-        memset(out, 0xEE, sizeof out);
-        seal(l, plain, 1498, wire, sizeof wire);
-        show_digest("seal, length", n, seal(l, plain, n, sealed, sizeof sealed), sealed, sizeof sealed);
-        show_digest("open, length", n, open_packet(l, wire, n, out, sizeof out), out, sizeof out);
+        l.count += set & 1 ? 4096 : 0;
+        both(bits, set, l, given, set & 16 ? given - 1 : given, mask);
     }
 }
 
 static void flags(int bits)
 {
     for (size_t f = 0; f < 16; f++) {
-        octet wire[18], out[14];
-        struct link l = fresh(bits);
-
-        seal(l, message, sizeof message, wire, sizeof wire);
-        memset(out, 0xEE, sizeof out);
-        wire[2] = 16 * f;
-        show_open("open, flags", f, l, wire, sizeof wire, out, sizeof out);
+        octet mask[6] = {0, 0, (16 * f) ^ 0x90, 0, 0, 0};
+        both(bits, f, fresh(bits), 18, 18, mask);
     }
 }
 
-/* A protocol number in a packet to be sealed, and in a sealed one, whose data RC4 lets be altered unseen. */
 static void protocols(int bits)
 {
-    static const unsigned numbers[] = {0x0000, 0x0020, 0x0021, 0x00FA, 0x00FB, 0x00FF, 0x0100, 0x0121, 0x2100, 0xFF21};
+    static const unsigned numbers[] = {0x0000, 0x0020, 0x0021, 0x00FA, 0x00FB, 0x00FF, 0x0100, 0x0121, 0x2100, 0xFF21, 0x7465};
 
     for (size_t k = 0; k < sizeof numbers / sizeof *numbers; k++) {
-        octet plain[14], wire[18], sealed[18], out[14];
-        struct link l = fresh(bits);
-
-        seal(l, message, sizeof message, wire, sizeof wire);
-        memset(sealed, 0xEE, sizeof sealed);
-        memset(out, 0xEE, sizeof out);
-        memcpy(plain, message, sizeof plain);
-        plain[0] = numbers[k] >> 8;
-        plain[1] = numbers[k] & 255;
-        wire[4] ^= plain[0] ^ message[0];
-        wire[5] ^= plain[1] ^ message[1];
-        show_seal("seal, protocol", numbers[k], l, plain, sizeof plain, sealed, sizeof sealed);
-        show_open("open, protocol", numbers[k], l, wire, sizeof wire, out, sizeof out);
+        octet mask[6] = {0, 0, 0, 0, numbers[k] >> 8, (numbers[k] & 255) ^ 0x21};
+        both(bits, k, fresh(bits), 18, 18, mask);
     }
+}
+
+static void heading(const char *label, size_t from)
+{
+    numbered(label, from, 0, NULL, 0);
 }
 
 static void cases(int bits)
 {
+    static const octet none[6];
+
     printf("%d bits\n", bits);
+    heading("new link", 0);
     new_links(bits);
-    messages(bits);
+    sample(bits);
     distances(bits);
-    seal_rows(bits);
-    open_rows(bits);
-    records(bits);
-    rooms(bits);
-    lengths(bits, 0, 9);
-    lengths(bits, 1496, 1505);
+    heading("rows", 0);
+    rows_of(bits);
+    heading("record", 0);
+    for (size_t v = 0; v < 36; v++)
+        both(bits, v, altered(fresh(bits), v), 18, 18, none);
+    heading("room", 4);
+    for (size_t room = 4; room < 25; room++)
+        both(bits, room, fresh(bits), 18, room, none);
+    heading("length", 4);
+    for (size_t n = 4; n < 13; n++)
+        both(bits, n, fresh(bits), n, 1520, none);
+    heading("length", 1500);
+    for (size_t n = 1500; n < 1506; n++)
+        both(bits, n, fresh(bits), n, 1520, none);
+    heading("flags", 0);
     flags(bits);
+    heading("protocol", 0);
     protocols(bits);
 }
 
 /* ---- The line that loses packets ---- */
 
-enum { PACKETS = 24000, PERIOD = 8000, LONGEST_LOSS = 4094, LENT = 1600 };
+enum { PACKETS = 24000, PERIOD = 8000, LONGEST_LOSS = 4094 };
 
 struct run {
     uint32_t seed;

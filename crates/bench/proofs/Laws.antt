@@ -27,8 +27,8 @@ ran-keyed text out e w =
     (ap (λ r. r .answer) (w .0) ∙ ap (λ k. runAnswer (k .state) text out .answer) e, w .1 ∙ ap (λ k. runOut (k .state) text out) e)
 
 -- a link call with a record that equals another
-pub linked : (call : Link → List ℕ → List ℕ → Result) {given said : Link} {made : Outcome} {exit : List ℕ} (text out : List ℕ) → given ≡ said
-    → (made ≡ call given text out .outcome) × (exit ≡ call given text out .buffer)
+pub linked : (call : Link → List ℕ → List ℕ → Result) {given said : Link} {made : Outcome} {exit : List ℕ} (text out : List ℕ)
+    → given ≡ said → (made ≡ call given text out .outcome) × (exit ≡ call given text out .buffer)
     → (made .answer ≡ call said text out .outcome .answer) × (exit ≡ call said text out .buffer)
 linked call text out e w =
     (ap (λ o. o .answer) (w .0) ∙ ap (λ l. call l text out .outcome .answer) e, w .1 ∙ ap (λ l. call l text out .buffer) e)

@@ -107,8 +107,10 @@ pub extern "C" fn bench_seal(
     plain: &[u8],
     out: &mut [u8],
 ) -> u8
-    ensures { λ r. ⌜ (r ≡ sealResult longestPlain (linkAt (now (start .entry)) (now (session .entry)) count) (now (plain .entry)) (now (out .entry)) .outcome .answer)
-        × (now (out .exit) ≡ sealResult longestPlain (linkAt (now (start .entry)) (now (session .entry)) count) (now (plain .entry)) (now (out .entry)) .buffer) ⌝ }
+    ensures { λ r. ⌜ (r ≡ sealResult longestPlain (linkAt (now (start .entry)) (now (session .entry)) count)
+        (now (plain .entry)) (now (out .entry)) .outcome .answer)
+        × (now (out .exit) ≡ sealResult longestPlain (linkAt (now (start .entry)) (now (session .entry)) count)
+        (now (plain .entry)) (now (out .entry)) .buffer) ⌝ }
 {
     let link = link_at(start, session, count);
     let made = link.seal(plain, out);
@@ -124,8 +126,10 @@ pub extern "C" fn bench_open(
     packet: &[u8],
     out: &mut [u8],
 ) -> u8
-    ensures { λ r. ⌜ (r ≡ openResult longestPlain (linkAt (now (start .entry)) (now (session .entry)) count) (now (packet .entry)) (now (out .entry)) .outcome .answer)
-        × (now (out .exit) ≡ openResult longestPlain (linkAt (now (start .entry)) (now (session .entry)) count) (now (packet .entry)) (now (out .entry)) .buffer) ⌝ }
+    ensures { λ r. ⌜ (r ≡ openResult longestPlain (linkAt (now (start .entry)) (now (session .entry)) count)
+        (now (packet .entry)) (now (out .entry)) .outcome .answer)
+        × (now (out .exit) ≡ openResult longestPlain (linkAt (now (start .entry)) (now (session .entry)) count)
+        (now (packet .entry)) (now (out .entry)) .buffer) ⌝ }
 {
     let link = link_at(start, session, count);
     let made = link.open(packet, out);

@@ -17,8 +17,14 @@ use mppe_keys::Role;
 use mppe_keys::Strength;
 use mschap::Checked;
 
-// The octets of a link record.
+// The octets of a link record: the strength in front, then the start key, the session key and the last count from these places on.
 const RECORD_LENGTH: usize = 35;
+
+const START_AT: usize = 1;
+
+const SESSION_AT: usize = 17;
+
+const COUNT_AT: usize = 33;
 
 // The number answered, and whether what was received is what it must be; a refusal is a no.
 #[repr(C)]
@@ -397,9 +403,9 @@ fn record_in(octets: &[u8]) -> Link
 {
     Link {
         strength: strength_of(octets[0]),
-        start: places(&octets[1..17]),
-        session: places(&octets[17..33]),
-        count: pair(octets[33], octets[34]),
+        start: places(&octets[START_AT..SESSION_AT]),
+        session: places(&octets[SESSION_AT..COUNT_AT]),
+        count: pair(octets[COUNT_AT], octets[COUNT_AT + 1]),
     }
 }
 
@@ -440,8 +446,12 @@ fn record_octets(link: Link) -> [u8; 35]
     let count = link.count;
     let mut octets = [0u8; 35];
     octets::copy_at(&[bits_of(strength)], 0, &mut octets);
-    octets::copy_at(&start, 1, &mut octets);
-    octets::copy_at(&session, 17, &mut octets);
-    octets::copy_at(&[(count / 256) as u8, (count % 256) as u8], 33, &mut octets);
+    octets::copy_at(&start, START_AT, &mut octets);
+    octets::copy_at(&session, SESSION_AT, &mut octets);
+    octets::copy_at(
+        &[(count / 256) as u8, (count % 256) as u8],
+        COUNT_AT,
+        &mut octets,
+    );
     octets
 }

@@ -1,12 +1,14 @@
 // A sender, a line that loses packets, and a receiver, which is handed other octets in between. All that happens goes into a digest.
 ghost use Prim.Native.Nat.{_≤_, _<_};
-ghost use lib.ListN.{length};
+use crate::LENT;
+use crate::Trial;
 use crate::fresh;
 use crate::headed;
 use crate::index;
 use crate::link_octets;
 use crate::open_within;
 use crate::seal_within;
+use crate::struck;
 use crate::two_octets;
 use libc::STDOUT_FILENO;
 use mppe::Link;
@@ -20,8 +22,6 @@ const PACKETS: usize = 24000;
 const PERIOD: usize = 8000;
 // The longest loss in a row (demand 3).
 const LONGEST_LOSS: usize = 4094;
-// The octets of a buffer, more than any packet has.
-const LENT: usize = 1600;
 // What is hashed at each call: the last digest, eight octets about it, a record, and the buffer.
 const EVENT: usize = 1663;
 
@@ -233,40 +233,29 @@ fn place(answer: u8) -> usize
     (answer % 8) as usize
 }
 
-// How a call differs from one with a whole packet and all the room: octets lent, room, and bits of one octet turned over.
-struct Trial {
-    given: usize,
-    room: usize,
-    at: usize,
-    mask: u8,
-}
-
 // Another length.
 fn cut(given: usize) -> Trial {
-    Trial {
-        given,
-        room: LENT,
-        at: 0,
-        mask: 0,
-    }
+    narrow(given, LENT)
 }
 
-// Less room.
+// Another length and less room.
 fn narrow(given: usize, room: usize) -> Trial {
     Trial {
         given,
         room,
-        at: 0,
-        mask: 0,
+        mask: [0u8; 6],
     }
 }
 
-// Bits turned over.
-fn spoilt(given: usize, at: usize, mask: u8) -> Trial {
+// Bits of one octet turned over.
+fn spoilt(given: usize, at: usize, bits: u8) -> Trial
+    requires { ⌜ at < 6 ⌝ }
+{
+    let mut mask = [0u8; 6];
+    mask[at] = bits;
     Trial {
         given,
         room: LENT,
-        at,
         mask,
     }
 }
@@ -279,7 +268,8 @@ fn refused_seal(run: Run, dice: [u8; 16], plain: [u8; LENT], size: usize, wire: 
         return run;
     }
     let trial = seal_trial(dice, plain[1], size);
-    let other = struck(plain, trial);
+    let mask = trial.mask;
+    let other = struck(plain, mask);
     seal_noted(run, &other, trial.given, wire, trial.room)
 }
 
@@ -308,7 +298,8 @@ fn refused_open(run: Run, dice: [u8; 16], plain: [u8; LENT], size: usize, wire: 
         return run;
     }
     let trial = open_trial(dice, plain[1], size);
-    let other = struck(if dice[5] % 16 < 2 { plain } else { wire }, trial);
+    let mask = trial.mask;
+    let other = struck(if dice[5] % 16 < 2 { plain } else { wire }, mask);
     open_noted(run, &other, trial.given, &mut [0xDDu8; LENT], trial.room)
 }
 
@@ -331,25 +322,22 @@ fn open_trial(dice: [u8; 16], protocol: u8, size: usize) -> Trial
         10 => cut(5),
         11 => cut(1503),
         12 => cut(index(dice[9] % 6)),
-        13 => spoilt(n, if dice[9] < 16 { 3 } else { 0 }, dice[8] | 1),
+        13 => spoilt(n, either(dice[9] < 16, 3, 0), dice[8] | 1),
         14 => spoilt(n, 5, protocol ^ (dice[8] % 33)),
         _ => Trial {
             given: n,
             room: 0,
-            at: 2,
-            mask: 0x80,
+            mask: [0, 0, 0x80, 0, 0, 0],
         },
     }
 }
 
-// Octets with the bits of a trial turned over.
-fn struck(octets: [u8; LENT], trial: Trial) -> [u8; LENT] {
-    let at = trial.at;
-    let mut out = octets;
-    if at < LENT {
-        out[at] = out[at] ^ trial.mask;
-    }
-    out
+// One of two places.
+fn either(first: bool, a: usize, b: usize) -> usize
+    requires { ⌜ (a < 6) × (b < 6) ⌝ }
+    ensures { λ r. ⌜ r < 6 ⌝ }
+{
+    if first { a } else { b }
 }
 
 // A packet that arrives, now and then twice.

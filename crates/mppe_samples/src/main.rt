@@ -9,6 +9,16 @@ use mppe_keys::Strength;
 mod cases;
 mod line;
 
+// The octets of a buffer, more than any packet has.
+const LENT: usize = 1600;
+
+// How a call differs from one with a whole packet and all the room: octets lent, room, and bits of the first octets turned over.
+struct Trial {
+    given: usize,
+    room: usize,
+    mask: [u8; 6],
+}
+
 // All cases, in the order of tests/mppe.c.
 fn main() {
     cases::all(Strength::Bits40);
@@ -66,6 +76,18 @@ fn open_within(link: Link, packet: &[u8], n: usize, out: &mut [u8], room: usize)
         return link.open(&packet[0..n], out);
     }
     link.open(&packet[0..n], &mut out[0..room])
+}
+
+// Octets with bits of the first six turned over.
+fn struck(octets: [u8; LENT], mask: [u8; 6]) -> [u8; LENT] {
+    let mut out = octets;
+    out[0] = out[0] ^ mask[0];
+    out[1] = out[1] ^ mask[1];
+    out[2] = out[2] ^ mask[2];
+    out[3] = out[3] ^ mask[3];
+    out[4] = out[4] ^ mask[4];
+    out[5] = out[5] ^ mask[5];
+    out
 }
 
 // Prints the bits of a strength behind a label.

@@ -36,6 +36,9 @@ places-requires-2 c κs = search needs
 shared-slice-read-pair : tie.Need-shared-slice-read-pair
 shared-slice-read-pair c = search needs
 
+add-pair : tie.Need-add-pair
+add-pair c = search needs
+
 shared-slice-read-pair-2 : tie.Need-shared-slice-read-pair-2
 shared-slice-read-pair-2 c = search needs
 
@@ -62,6 +65,7 @@ record-in-spec =
     part-places-end-2
     places-requires-2
     shared-slice-read-pair
+    add-pair
     shared-slice-read-pair-2
     pair-requires
     returns)

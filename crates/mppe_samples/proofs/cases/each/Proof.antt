@@ -4,10 +4,16 @@ use Rattle.mppe_samples.proofs.cases.each.Statement.{statement}
 use Rattle.mppe_samples.proofs.cases.each.Tie as tie
 
 abbrev Inv-loop : tie.InvT-loop
-Inv-loop strength kind from to n₀ n = n₀ ≤ n
+Inv-loop strength label kind from to n₀ n = n₀ ≤ n
 
 abbrev μ-loop : tie.MeasureT-loop
-μ-loop strength kind from to n₀ n = to - n
+μ-loop strength label kind from to n₀ n = to - n
+
+slice-aggregate-numbered : tie.Need-slice-aggregate-numbered Inv-loop μ-loop
+slice-aggregate-numbered c = search needs
+
+numbered-requires : tie.Need-numbered-requires Inv-loop μ-loop
+numbered-requires c κs = search needs
 
 loop-holds : tie.Need-loop-holds Inv-loop μ-loop
 loop-holds c = search needs
@@ -36,6 +42,8 @@ each-spec =
     (tie.spec
     Inv-loop
     μ-loop
+    slice-aggregate-numbered
+    numbered-requires
     loop-holds
     fresh-requires
     case-requires
