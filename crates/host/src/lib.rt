@@ -17,13 +17,13 @@ use mppe_keys::Role;
 use mppe_keys::Strength;
 use mschap::Checked;
 
-// The octets of a link record: the strength in front, then the start key, the session key and the last count from these places on.
+// The octets of a link record; the first is its strength in bits.
 const RECORD_LENGTH: usize = 35;
-
+// Where its start key begins.
 const START_AT: usize = 1;
-
+// Where its session key begins.
 const SESSION_AT: usize = 17;
-
+// Where its last count begins.
 const COUNT_AT: usize = 33;
 
 // The number answered, and whether what was received is what it must be; a refusal is a no.
