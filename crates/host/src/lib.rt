@@ -1,6 +1,6 @@
 // What a concentrator written in C calls, over numbers and octets; include/udukemb.h says the same to C.
 ghost use mathlib.Core.Path.{_≡_};
-ghost use Prim.Native.Nat.{_+_, _*_};
+ghost use Prim.Native.Nat.{_+_};
 ghost use lib.ListN.{length};
 ghost use mathlib.Core.Bool.{false};
 ghost use Rattle.answer.specs.Answer.{done, firstOf, onDone};
@@ -16,6 +16,7 @@ use mppe_keys::Direction;
 use mppe_keys::Role;
 use mppe_keys::Strength;
 use mschap::Checked;
+use octets::pair;
 
 // The octets of a link record; the first is its strength in bits.
 const RECORD_LENGTH: usize = 35;
@@ -407,13 +408,6 @@ fn record_in(octets: &[u8]) -> Link
         session: places(&octets[SESSION_AT..COUNT_AT]),
         count: pair(octets[COUNT_AT], octets[COUNT_AT + 1]),
     }
-}
-
-// The number of two octets, highest first.
-fn pair(high: u8, low: u8) -> u16
-    ensures { λ r. ⌜ r ≡ high * 256 + low ⌝ }
-{
-    high as u16 * 256 + low as u16
 }
 
 // A key in its places.

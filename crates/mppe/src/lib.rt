@@ -10,6 +10,7 @@ ghost use Rattle.mppe_keys.specs.Keys.{keyLength, headOf, changes as changesOf}
 ghost use Rattle.mppe.specs.Link.{longestPlain, zeros, begins, wellFormed, newLink, startKeyIn, sessionKeyIn, renewed, offProtocol, header, distance as distanceOf, refusal, sealCode, sealResult, packetCode, frontCode, openResult};
 use mppe_keys::Strength;
 use mppe_keys::key_length;
+use octets::pair;
 use rc4::Rc4;
 
 // The shortest plain packet: two protocol octets.
@@ -283,13 +284,6 @@ fn runs_off_protocol(cipher: Rc4, text: &[u8]) -> bool
     let mut plain = [0u8; 2];
     cipher.run(&text[..2], &mut plain);
     off_protocol(plain[0], plain[1])
-}
-
-// The number of two octets, highest first.
-fn pair(high: u8, low: u8) -> u16
-    ensures { λ r. ⌜ r ≡ high * 256 + low ⌝ }
-{
-    high as u16 * 256 + low as u16
 }
 
 // The count of the packet after one.

@@ -50,6 +50,13 @@ pub fn word(a: u8, b: u8, c: u8, d: u8) -> u32
     wide(a) * 16777216 + wide(b) * 65536 + wide(c) * 256 + wide(d)
 }
 
+// The number of two octets, the highest first.
+pub fn pair(high: u8, low: u8) -> u16
+    ensures { λ r. ⌜ r ≡ high * 256 + low ⌝ }
+{
+    high as u16 * 256 + low as u16
+}
+
 // An octet as a word.
 pub fn wide(x: u8) -> u32
     ensures { λ r. ⌜ r ≡ x ⌝ }
