@@ -1,0 +1,90 @@
+-- Laws of the table: which number a call answers, what its number says of the rows, and what an answer then holds.
+use mathlib.Core.Path.{_≡_, refl}
+use mathlib.Core.Bool.{Bool, true, false, not, true≢false, false≢true}
+use mathlib.Core.List.{List, [], _∷_, _++_}
+use Prim.Native.Nat.{ℕ, zero, suc, _<_, _≤_}
+use native.Mathlib.Nat.{suc-ne-zero}
+use lib.Dec.{eqb, ltb}
+use lib.ListN.{length}
+use borrow.Author.Tests.{lt-ltb, le-ltb, ltb-false, eq-eqb, ne-eqb, eqb-true}
+use Rattle.answer.specs.Answer.{done, pick, outside, wrong, firstOf, onDone}
+
+-- a row that applies gives its number, and one that does not leaves it to those behind it
+pub stops : (t : Bool) (n rest : ℕ) → t ≡ true → n ≡ pick t n rest
+stops t n rest e = rw e
+
+pub passes : (t : Bool) (n rest : ℕ) {code : ℕ} → t ≡ false → code ≡ rest → code ≡ pick t n rest
+passes t n rest e same = rw e same
+
+-- all numbers of these rows are refusals
+abbrev pub refusals : List (ℕ × Bool) → Bool
+refusals [] = true
+refusals (row ∷ rows) = onDone (row .0) false (refusals rows)
+
+-- no row of this number applies: a fact for each row that has it
+abbrev pub ClearIf : Bool → Bool → Type 0 → Type 0
+ClearIf true t rest = (t ≡ false) × rest
+ClearIf false t rest = rest
+
+abbrev pub Clear : ℕ → List (ℕ × Bool) → Type 0
+Clear n [] = Unit {0}
+Clear n (row ∷ rows) = ClearIf (eqb (row .0) n) (row .1) (Clear n rows)
+
+-- where a call answers 0, no row of any number applies
+pub clear : (n : ℕ) (rows : List (ℕ × Bool)) → refusals rows ≡ true → firstOf rows ≡ done → Clear n rows
+clear n [] all e = tt
+clear n ((zero, t) ∷ rows) all e = absurd (false≢true all)
+clear n ((suc m, true) ∷ rows) all e = absurd (suc-ne-zero m e)
+clear n ((suc m, false) ∷ rows) all e = go (eqb (suc m) n) (clear n rows all e)
+  where
+    go : (t : Bool) → Clear n rows → ClearIf t false (Clear n rows)
+    go true rest = (refl, rest)
+    go false rest = rest
+
+-- rows of which none applies leave it to those behind them; where one applies, those behind do not matter
+pub rows-pass : (rows rest : List (ℕ × Bool)) → refusals rows ≡ true → firstOf rows ≡ done → firstOf (rows ++ rest) ≡ firstOf rest
+rows-pass [] rest all e = refl
+rows-pass ((zero, t) ∷ rows) rest all e = absurd (false≢true all)
+rows-pass ((suc n, true) ∷ rows) rest all e = absurd (suc-ne-zero n e)
+rows-pass ((suc n, false) ∷ rows) rest all e = rows-pass rows rest all e
+
+pub rows-stop : (rows rest : List (ℕ × Bool)) → (firstOf rows ≡ done → ⊥) → firstOf (rows ++ rest) ≡ firstOf rows
+rows-stop [] rest e = absurd (e refl)
+rows-stop ((n, true) ∷ rows) rest e = refl
+rows-stop ((n, false) ∷ rows) rest e = rows-stop rows rest e
+
+-- a number that is not 0 leaves what a refusal has
+pub not-done : {A : Type 0} (code : ℕ) (result refused : A) → (code ≡ done → ⊥) → onDone code result refused ≡ refused
+not-done zero result refused h = absurd (h refl)
+not-done (suc n) result refused h = refl
+
+-- a number below its limits, above them, and within them
+pub outside-low : (low high n : ℕ) → n < low → outside low high n ≡ true
+outside-low low high n h = rw (lt-ltb n low h)
+
+pub outside-high : (low high n : ℕ) → low ≤ n → high < n → outside low high n ≡ true
+outside-high low high n l h = rw (le-ltb n low l, lt-ltb high n h)
+
+pub outside-none : (low high n : ℕ) → low ≤ n → n ≤ high → outside low high n ≡ false
+outside-none low high n l h = rw (le-ltb n low l, le-ltb high n h)
+
+pub within : (low high n : ℕ) → outside low high n ≡ false → (low ≤ n) × (n ≤ high)
+within low high n e = (ltb-false n low (neither (ltb n low) (ltb high n) e .0), ltb-false high n (neither (ltb n low) (ltb high n) e .1))
+  where
+    neither : (a b : Bool) → pick a true b ≡ false → (a ≡ false) × (b ≡ false)
+    neither true b e = absurd (true≢false e)
+    neither false b e = (refl, e)
+
+-- an input of the one length named, and one of another
+pub right : (n : ℕ) (input : List ℕ) → length input ≡ n → wrong n input ≡ false
+right n input h = rw (eq-eqb (length input) n h)
+
+pub not-right : (n : ℕ) (input : List ℕ) → (length input ≡ n → ⊥) → wrong n input ≡ true
+not-right n input h = rw (ne-eqb (length input) n h)
+
+pub right-length : (n : ℕ) (input : List ℕ) → wrong n input ≡ false → length input ≡ n
+right-length n input e = eqb-true (length input) n (go (eqb (length input) n) e)
+  where
+    go : (t : Bool) → not t ≡ false → t ≡ true
+    go true e = refl
+    go false e = absurd (true≢false e)
