@@ -1,6 +1,6 @@
 -- The ways out of the link's functions, over plain lists and numbers.
 use mathlib.Core.Path.{_≡_, refl, sym, ap, _∙_}
-use mathlib.Core.Bool.{Bool, true, false, not, false≢true}
+use mathlib.Core.Bool.{Bool, true, false, not, _&&_}
 use mathlib.Core.List.{List, [], _∷_, _++_, append-assoc, append-nil}
 use Prim.Native.Nat.{ℕ, zero, suc, _+_, _*_, _-_, _/_, _%_, _^_, _<_, _≤_}
 use native.Mathlib.Numerals.{add-one}
@@ -8,10 +8,11 @@ use native.Mathlib.Omega.{arith}
 use lib.Dec.{eqb, ltb, lit≤}
 use lib.ListN.{length, take, drop, getD, replicate, drop-of-length-le, length-append, length-drop}
 use lib.Seq.{drop-cons, drop-drop, drop-length, take-all, take-at, drop-at, length-take-le}
-use borrow.Author.Tests.{lt-ltb, le-ltb, eq-eqb, ne-eqb, ltb-true, ltb-false, eqb-true, eqb-false, not-true, not-false}
+use borrow.Author.Tests.{lt-ltb, le-ltb, eq-eqb, ne-eqb, ltb-true, ltb-false, eqb-false, not-true, not-false}
 use borrow.Rule.Slice.PartMut.{putMid}
-use Rattle.answer.specs.Answer.{done, shape, room, size, protocol, flags, repeat, notRecord, pick, outside, firstOf, onDone}
-use Rattle.octets.specs.Octets.{written, longestText}
+use Rattle.answer.specs.Answer.{done, shape, room, size, protocol, flags, repeat, notRecord, outside, wrong, firstOf, onDone}
+use Rattle.answer.specs.Laws.{clear, rows-pass, rows-stop, not-done, outside-low, within, right, right-length}
+use Rattle.octets.specs.Octets.{written}
 use Rattle.rc4.specs.declared.Rc4.{Rc4}
 use Rattle.rc4.specs.declared.Keyed.{Keyed}
 use Rattle.rc4.specs.Cipher.{keySchedule, run}
@@ -25,8 +26,9 @@ use Rattle.mppe_keys.specs.Laws.{key-least, key-most, keyChange-length, changes
 use Rattle.mppe_keys.proofs.Laws.{key-placed}
 use Rattle.mppe.specs.declared.Link.{Link}
 use Rattle.mppe.specs.declared.Outcome.{Outcome}
-use Rattle.mppe.specs.Link.{longestPlain, zeros, begins, wellFormed, startKeyIn, sessionKeyIn, renewed, newLink, pairAt, offProtocol, bitA, bitD, header, countIn, sealedPacket, distance, refusal, plainRows, nextCount, nextKey, changesFor, sealCode, sealResult, packetRows, packetCode, laterRows, frontRows, frontCode, keyFor, plainFor, openCode, openResult}
-use Rattle.mppe.specs.Laws.{rows-none, rows-pass, rows-stop, within, outside-none, key-back}
+use Rattle.mppe.specs.Link.{shortestPlain, longestPlain, front, counts, newCount, zeros, begins, wellFormed, startKeyIn, sessionKeyIn, renewed, newLink, newLinkCode, offProtocol, bitA, bitD, header, sealedPacket, headerIn, dataIn, countOf, lacks, Result, refusal, plainRows, nextCount, nextKey, sealCode, sealResult, changesFor, keyFor, plainFor, linkAfter, frontRows, headerRows, dataRows, openCode, openResult}
+use Rattle.mppe.specs.Inner.{frontCode, headerCode, dataResult}
+use Rattle.mppe.specs.Laws.{both, key-back}
 
 -- one place more that is 0, one that is not, and the end of the places
 pub zeros-more : {b : Bool} (l : List ℕ) (i : ℕ) → b ≡ zeros (drop i l) → getD l i 0 ≡ 0 → i < length l → b ≡ zeros (drop (i + 1) l)
@@ -42,7 +44,7 @@ unfolding zeros
 zeros-end l i e h = sym (e ∙ rw (drop-of-length-le l {i = i} h))
 
 -- a test and one that holds
-itself : (t : Bool) → t ≡ pick t true false
+itself : (t : Bool) → t ≡ t && true
 itself true = refl
 itself false = refl
 
@@ -75,12 +77,12 @@ three-begin s a b c (x ∷ []) e first second h = absurd (omega arith)
 three-begin s a b c (x ∷ y ∷ []) e first second h = absurd (omega arith)
 three-begin s a b c (x ∷ y ∷ z ∷ l) e first second h = rw (e, eq-eqb x a first, eq-eqb y b second) (itself (eqb z c))
 
--- a number below its limits, and one that is not
-pub outside-low : {r : ℕ} (low high n : ℕ) → r ≡ n → r < low → true ≡ outside low high n
-outside-low low high n e h = rw (lt-ltb n low (omega arith))
+-- a protocol number below its limits, and one that is not
+pub protocol-low : {r n : ℕ} → r ≡ n → r < 0x0021 → true ≡ outside 0x0021 0x00FA n
+protocol-low {r} {n} e h = sym (outside-low 0x0021 0x00FA n (omega arith))
 
-pub outside-high : {r : ℕ} (low high n : ℕ) → r ≡ n → low ≤ r → ltb high r ≡ outside low high n
-outside-high low high n e h = rw (e, le-ltb n low (omega arith))
+pub protocol-high : {r n : ℕ} → r ≡ n → 0x0021 ≤ r → ltb 0x00FA r ≡ outside 0x0021 0x00FA n
+protocol-high {r} {n} e h = rw (e, le-ltb n 0x0021 (omega arith))
 
 -- a record whose session key is changed
 pub moved-is : {places : List ℕ} (l : Link) (n count : ℕ) → places ≡ placedChanges (l .strength) (l .start) (l .session) n
@@ -89,12 +91,13 @@ pub moved-is : {places : List ℕ} (l : Link) (n count : ℕ) → places ≡ pla
 unfolding placedChanges
 moved-is l n count e = rw e
 
--- RC4 keyed with a key in its places
-pub cipher-is : {k : Keyed} (s : Strength) (n : ℕ) (session : List ℕ) → n ≡ keyLength s → k ≡ keyedAnswer (take n session) → length session ≡ 16
-    → k .state ≡ keySchedule (take (keyLength s) session)
-cipher-is s n session en e h =
-    let long : length (take (keyLength s) session) ≡ keyLength s = length-take-le (keyLength s) session (omega (arith, key-most s)) in
-    rw (e, en, keyed-done (take (keyLength s) session) (omega (arith, long, key-least s)) (omega (arith, long, key-most s)))
+-- RC4 keyed with a record's session key
+pub cipher-is : {k : Keyed} (l : Link) (n : ℕ) → n ≡ keyLength (l .strength) → k ≡ keyedAnswer (take n (l .session)) → length (l .session) ≡ 16
+    → k .state ≡ keySchedule (sessionKeyIn l)
+cipher-is l n en e h =
+    let s : Strength = l .strength in
+    let long : length (sessionKeyIn l) ≡ keyLength s = length-take-le (keyLength s) (l .session) (omega (arith, key-most s)) in
+    rw (e, en, keyed-done (sessionKeyIn l) (omega (arith, long, key-least s)) (omega (arith, long, key-most s)))
 
 -- the front of a sealed packet
 pub front-put : {out′ : List ℕ} (count a b : ℕ) (out : List ℕ) → out′ ≡ written (take (length out) (0x00 ∷ 0xFD ∷ a ∷ b ∷ [])) out
@@ -113,31 +116,32 @@ pair-runs s (x ∷ []) e er h = absurd (omega arith)
 pair-runs s (x ∷ y ∷ text) e er h = er ∙ rw (e, run-done s (x ∷ y ∷ []) (0 ∷ 0 ∷ []) (lit≤ tt) (lit≤ tt) .1)
 
 -- a start key of a wrong length, and one of the right one
-key-refused : (t : Bool) (key : List ℕ) → (keyAnswer (firstOf ((size, t) ∷ [])) key .answer ≡ done → ⊥) → t ≡ true
-unfolding keyAnswer
-key-refused true key h = refl
-key-refused false key h = absurd (h refl)
-
-key-given : (t : Bool) (key : List ℕ) → keyAnswer (firstOf ((size, t) ∷ [])) key .answer ≡ done → t ≡ false
-unfolding keyAnswer
-key-given true key h = absurd (omega arith)
-key-given false key h = refl
+new-code : {k : Key} (s : Strength) (start : List ℕ) → k ≡ initialKeyAnswer s start → k .answer ≡ newLinkCode s start
+unfolding initialKeyAnswer oneCode
+new-code s start e = ap (λ (k : Key). k .answer) e ∙ told (wrong (keyLength s) start)
+  where
+    told : (t : Bool) → keyAnswer (firstOf ((size, t) ∷ [])) (initialKey s start) .answer ≡ firstOf ((size, t) ∷ [])
+    told true = unfold keyAnswer in refl
+    told false = unfold keyAnswer in refl
 
 pub new-refused : {k : Key} (s : Strength) (start : List ℕ) → k ≡ initialKeyAnswer s start → (k .answer ≡ done → ⊥)
     → record { answer = size; link = record { strength = s; start = replicate 16 0; session = replicate 16 0; count = 0 } } ≡ newLink s start
-unfolding newLink initialKeyAnswer oneCode
-new-refused s start e h =
-    rw (key-refused (not (eqb (length start) (keyLength s))) (initialKey s start) λ z. h (ap (λ (k : Key). k .answer) e ∙ z))
+unfolding newLink
+new-refused s start e h = rw (only (wrong (keyLength s) start) λ z. h (new-code s start e ∙ z))
+  where
+    only : (t : Bool) → (firstOf ((size, t) ∷ []) ≡ done → ⊥) → t ≡ true
+    only true h = refl
+    only false h = absurd (h refl)
 
 pub new-done : {k : Key} {places : List ℕ} (s : Strength) (start : List ℕ) → k ≡ initialKeyAnswer s start → k .answer ≡ done
     → places ≡ written (take 16 start) (replicate 16 0)
-    → record { answer = done; link = record { strength = s; start = places; session = k .octets; count = 4095 } } ≡ newLink s start
-unfolding newLink initialKeyAnswer oneCode keyAnswer
+    → record { answer = done; link = record { strength = s; start = places; session = k .octets; count = newCount } } ≡ newLink s start
+unfolding newLink initialKeyAnswer keyAnswer oneCode
 new-done s start e h ep =
-    let given = key-given (not (eqb (length start) (keyLength s))) (initialKey s start) (sym (ap (λ (k : Key). k .answer) e) ∙ h) in
-    let long = eqb-true (length start) (keyLength s) (not-false (eqb (length start) (keyLength s)) given) in
+    let code : newLinkCode s start ≡ done = sym (new-code s start e) ∙ h in
+    let long = right-length (keyLength s) start (clear size ((size, wrong (keyLength s) start) ∷ []) refl code .0) in
     let key = key-placed start ep (omega (arith, long, key-most s)) in
-    rw (e, given, key)
+    rw (e, right (keyLength s) start long, key)
 
 -- a test and its opposite, as code takes them
 pub fails : {r : Bool} (t : Bool) → r ≡ t → not r ≡ true → t ≡ false
@@ -146,165 +150,61 @@ fails {r} t e h = sym e ∙ not-true r h
 pub holds : {r : Bool} (t : Bool) → r ≡ t → not r ≡ false → t ≡ true
 holds {r} t e h = sym e ∙ not-false r h
 
+-- .. and as the table's rows take them
+pub opposite : {r t b : Bool} → r ≡ t → not r ≡ b → not t ≡ b
+opposite e h = ap not (sym e) ∙ h
+
 -- a record that is not well formed, by each of its tests, and what the last says
-pub well-count : (l : Link) → 4096 ≤ l .count → false ≡ wellFormed l
+pub well-count : (l : Link) → counts ≤ l .count → false ≡ wellFormed l
 unfolding wellFormed
-well-count l h = rw (le-ltb (l .count) 4096 h)
+well-count l h = rw (le-ltb (l .count) counts h)
 
-pub well-start : {n : ℕ} (l : Link) → n ≡ keyLength (l .strength) → l .count < 4096 → zeros (drop n (l .start)) ≡ false → false ≡ wellFormed l
+pub well-start : {n : ℕ} (l : Link) → n ≡ keyLength (l .strength) → l .count < counts → zeros (drop n (l .start)) ≡ false → false ≡ wellFormed l
 unfolding wellFormed
-well-start l e h a = rw (lt-ltb (l .count) 4096 h, ← e, a)
+well-start l e h a = rw (lt-ltb (l .count) counts h, ← e, a)
 
-pub well-session : {n : ℕ} (l : Link) → n ≡ keyLength (l .strength) → l .count < 4096 → zeros (drop n (l .start)) ≡ true
+pub well-session : {n : ℕ} (l : Link) → n ≡ keyLength (l .strength) → l .count < counts → zeros (drop n (l .start)) ≡ true
     → zeros (drop n (l .session)) ≡ false → false ≡ wellFormed l
 unfolding wellFormed
-well-session l e h a b = rw (lt-ltb (l .count) 4096 h, ← e, a, b)
+well-session l e h a b = rw (lt-ltb (l .count) counts h, ← e, a, b)
 
-pub well-last : {n : ℕ} {r : Bool} (l : Link) → n ≡ keyLength (l .strength) → l .count < 4096 → zeros (drop n (l .start)) ≡ true
+pub well-last : {n : ℕ} {r : Bool} (l : Link) → n ≡ keyLength (l .strength) → l .count < counts → zeros (drop n (l .start)) ≡ true
     → zeros (drop n (l .session)) ≡ true → r ≡ begins (headOf (l .strength)) (l .session) → r ≡ wellFormed l
 unfolding wellFormed
-well-last l e h a b last = last ∙ rw (lt-ltb (l .count) 4096 h, ← e, a, b)
+well-last l e h a b last = last ∙ rw (lt-ltb (l .count) counts h, ← e, a, b)
 
 -- a well-formed record's count
-pub count-bound : (l : Link) → wellFormed l ≡ true → l .count < 4096
+pub count-bound : (l : Link) → wellFormed l ≡ true → l .count < counts
 unfolding wellFormed
-count-bound l h = ltb-true (l .count) 4096 (left (ltb (l .count) 4096) _ h)
-  where
-    left : (a b : Bool) → pick a b false ≡ true → a ≡ true
-    left true b h = refl
-    left false b h = absurd (false≢true h)
+count-bound l h =
+    ltb-true (l .count) counts (both (ltb (l .count) counts) _ (both (ltb (l .count) counts && _) _ (both (ltb (l .count) counts && _ && _) _ h .0) .0) .0)
 
--- the ways out of seal's table
-pub seal-record : (limit : ℕ) (l : Link) (plain : List ℕ) (lent : ℕ) → wellFormed l ≡ false → notRecord ≡ sealCode limit l plain lent
-unfolding sealCode
-seal-record limit l plain lent w = rw w
+-- what a call hands back and leaves in the lent buffer is a result
+abbrev pub Gives : Outcome → List ℕ → Result → Type 0
+Gives r out result = (r ≡ result .outcome) × (out ≡ result .buffer)
 
-pub seal-short : (limit : ℕ) (l : Link) (plain : List ℕ) (lent : ℕ) → wellFormed l ≡ true → length plain < 2 → size ≡ sealCode limit l plain lent
-unfolding sealCode
-seal-short limit l plain lent w h = rw (w, lt-ltb (length plain) 2 h)
+-- a refusal
+refused-is : {r : Outcome} {code : ℕ} (result : Result) (code′ : ℕ) (l : Link) (out : List ℕ) → code ≡ code′ → (code ≡ done → ⊥) → r ≡ refusal code l [] .outcome
+    → Gives r out (onDone code′ result (refusal code′ l out))
+refused-is result code′ l out e h er =
+    rw (not-done code′ result (refusal code′ l out) (λ z. h (e ∙ z)), er, e) (refl, refl)
 
-pub seal-long : (limit : ℕ) (l : Link) (plain : List ℕ) (lent : ℕ) → wellFormed l ≡ true → 2 ≤ length plain → limit < length plain
-    → size ≡ sealCode limit l plain lent
-unfolding sealCode
-seal-long limit l plain lent w low h = rw (w, le-ltb (length plain) 2 low, lt-ltb limit (length plain) h)
-
-pub seal-protocol : {r : Bool} (limit : ℕ) (l : Link) (plain : List ℕ) (lent : ℕ) → wellFormed l ≡ true → 2 ≤ length plain → length plain ≤ limit
-    → r ≡ offProtocol plain → r ≡ true → protocol ≡ sealCode limit l plain lent
-unfolding sealCode
-seal-protocol limit l plain lent w low high e t = rw (w, outside-none 2 limit (length plain) low high, sym e ∙ t)
-
-pub seal-room : {r : Bool} (limit : ℕ) (l : Link) (plain : List ℕ) (lent : ℕ) → wellFormed l ≡ true → 2 ≤ length plain → length plain ≤ limit
-    → r ≡ offProtocol plain → r ≡ false → lent < 4 + length plain → room ≡ sealCode limit l plain lent
-unfolding sealCode
-seal-room limit l plain lent w low high e t h = rw (w, outside-none 2 limit (length plain) low high, sym e ∙ t, lt-ltb lent (4 + length plain) h)
-
-pub seal-done : {r : Bool} (limit : ℕ) (l : Link) (plain : List ℕ) (lent : ℕ) → wellFormed l ≡ true → 2 ≤ length plain → length plain ≤ limit
-    → r ≡ offProtocol plain → r ≡ false → 4 + length plain ≤ lent → done ≡ sealCode limit l plain lent
-unfolding sealCode
-seal-done limit l plain lent w low high e t h = rw (w, outside-none 2 limit (length plain) low high, sym e ∙ t, le-ltb lent (4 + length plain) h)
-
--- the ways out of the rows that a packet decides
-pub packet-short : (limit : ℕ) (packet : List ℕ) → length packet < 6 → shape ≡ packetCode limit packet
-unfolding packetCode
-packet-short limit packet h = rw (lt-ltb (length packet) 6 h)
-
-pub packet-long : (limit : ℕ) (packet : List ℕ) → 6 ≤ length packet → 4 + limit < length packet → shape ≡ packetCode limit packet
-unfolding packetCode
-packet-long limit packet low h = rw (le-ltb (length packet) 6 low, lt-ltb (4 + limit) (length packet) h)
-
-pub packet-other : {p : ℕ} (limit : ℕ) (packet : List ℕ) → 6 ≤ length packet → length packet ≤ 4 + limit → p ≡ pairAt 0 packet → (p ≡ 0x00FD → ⊥)
-    → shape ≡ packetCode limit packet
-unfolding packetCode
-packet-other limit packet low high e h =
-    rw (outside-none 6 (4 + limit) (length packet) low high, ne-eqb (pairAt 0 packet) 0x00FD λ z. h (e ∙ z))
-
-pub packet-flag-A : {p h : ℕ} (limit : ℕ) (packet : List ℕ) → 6 ≤ length packet → length packet ≤ 4 + limit → p ≡ pairAt 0 packet → p ≡ 0x00FD
-    → h ≡ pairAt 2 packet → h / 0x8000 % 2 ≡ 0 → flags ≡ packetCode limit packet
-unfolding packetCode
-packet-flag-A limit packet low high e is eh a =
-    rw
-    (outside-none 6 (4 + limit) (length packet) low high, eq-eqb (pairAt 0 packet) 0x00FD (sym e ∙ is), ← eh, a)
-
-pub packet-flag-D : {p h : ℕ} (limit : ℕ) (packet : List ℕ) → 6 ≤ length packet → length packet ≤ 4 + limit → p ≡ pairAt 0 packet → p ≡ 0x00FD
-    → h ≡ pairAt 2 packet → (h / 0x8000 % 2 ≡ 0 → ⊥) → h / 0x1000 % 2 ≡ 0 → flags ≡ packetCode limit packet
-unfolding packetCode
-packet-flag-D limit packet low high e is eh a d =
-    rw
-    (outside-none 6 (4 + limit) (length packet) low high, eq-eqb (pairAt 0 packet) 0x00FD (sym e ∙ is), ← eh, ne-eqb _ 0 a, d)
-
-pub packet-done : {p h : ℕ} (limit : ℕ) (packet : List ℕ) → 6 ≤ length packet → length packet ≤ 4 + limit → p ≡ pairAt 0 packet → p ≡ 0x00FD
-    → h ≡ pairAt 2 packet → (h / 0x8000 % 2 ≡ 0 → ⊥) → (h / 0x1000 % 2 ≡ 0 → ⊥) → done ≡ packetCode limit packet
-unfolding packetCode
-packet-done limit packet low high e is eh a d =
-    rw
-    (outside-none 6 (4 + limit) (length packet) low high, eq-eqb (pairAt 0 packet) 0x00FD (sym e ∙ is), ← eh, ne-eqb _ 0 a, ne-eqb _ 0 d)
-
--- the distance, as code works it out from a well-formed record and a packet's header
-pub near-is : {d h : ℕ} (l : Link) (packet : List ℕ) → wellFormed l ≡ true → h ≡ pairAt 2 packet → d ≡ distance (l .count % 4096) (h % 4096 % 4096)
-    → d ≡ changesFor l packet
-near-is {d} {h} l packet w e ed =
-    let last : l .count % 4096 ≡ l .count = omega (arith, count-bound l w) in
-    let once : h % 4096 % 4096 ≡ pairAt 2 packet % 4096 = omega arith in
-    ed ∙ rw (last, once)
-
--- the ways out of open's table but for its last row
-pub front-record : (limit : ℕ) (l : Link) (packet : List ℕ) (lent : ℕ) → wellFormed l ≡ false → notRecord ≡ frontCode limit l packet lent
-unfolding frontCode
-front-record limit l packet lent w = rw w
-
-pub front-packet : {code : ℕ} (limit : ℕ) (l : Link) (packet : List ℕ) (lent : ℕ) → wellFormed l ≡ true → code ≡ packetCode limit packet
-    → (code ≡ done → ⊥) → code ≡ frontCode limit l packet lent
-unfolding frontCode packetCode
-front-packet limit l packet lent w e h = rw w (e ∙ sym (rows-stop (packetRows limit packet) (laterRows l packet lent) λ z. h (e ∙ z)))
-
--- what the packet alone decides, passed
-front-later : {code : ℕ} (limit : ℕ) (l : Link) (packet : List ℕ) (lent : ℕ) → wellFormed l ≡ true → code ≡ packetCode limit packet → code ≡ done
-    → firstOf (laterRows l packet lent) ≡ frontCode limit l packet lent
-unfolding frontCode packetCode
-front-later limit l packet lent w e z =
-    rw w (sym (rows-pass (packetRows limit packet) (laterRows l packet lent) (lit≤ tt, (lit≤ tt, (lit≤ tt, (lit≤ tt, tt)))) (sym e ∙ z)))
-
-pub front-repeat : {code d : ℕ} (limit : ℕ) (l : Link) (packet : List ℕ) (lent : ℕ) → wellFormed l ≡ true → code ≡ packetCode limit packet → code ≡ done
-    → d ≡ changesFor l packet → d ≡ 0 → repeat ≡ frontCode limit l packet lent
-front-repeat limit l packet lent w e z ed h = rw (eq-eqb (changesFor l packet) 0 (sym ed ∙ h)) at (front-later limit l packet lent w e z)
-
-pub front-room : {code d : ℕ} (limit : ℕ) (l : Link) (packet : List ℕ) (lent : ℕ) → wellFormed l ≡ true → code ≡ packetCode limit packet → code ≡ done
-    → d ≡ changesFor l packet → (d ≡ 0 → ⊥) → lent < length packet - 4 → room ≡ frontCode limit l packet lent
-front-room limit l packet lent w e z ed h small =
-    rw (ne-eqb (changesFor l packet) 0 λ q. h (ed ∙ q), lt-ltb lent (length packet - 4) small) at (front-later limit l packet lent w e z)
-
-pub front-done : {code d : ℕ} (limit : ℕ) (l : Link) (packet : List ℕ) (lent : ℕ) → wellFormed l ≡ true → code ≡ packetCode limit packet → code ≡ done
-    → d ≡ changesFor l packet → (d ≡ 0 → ⊥) → length packet - 4 ≤ lent → done ≡ frontCode limit l packet lent
-front-done limit l packet lent w e z ed h fits =
-    rw (ne-eqb (changesFor l packet) 0 λ q. h (ed ∙ q), le-ltb lent (length packet - 4) fits) at (front-later limit l packet lent w e z)
-
--- a packet that its own rows let pass
-pub packet-bounds : {code : ℕ} (limit : ℕ) (packet : List ℕ) → code ≡ packetCode limit packet → code ≡ done → (6 ≤ length packet) × (length packet ≤ 4 + limit)
-unfolding packetCode
-packet-bounds limit packet e z =
-    within 6 (4 + limit) (length packet) (rows-none (packetRows limit packet) (lit≤ tt, (lit≤ tt, (lit≤ tt, (lit≤ tt, tt)))) (sym e ∙ z) .0)
-
--- an answer that is not 0 gives what a refusal has
-not-done : {A : Type 0} (result other : A) (code : ℕ) → (code ≡ done → ⊥) → onDone code result other ≡ other
-not-done result other zero h = absurd (h refl)
-not-done result other (suc n) h = refl
-
--- a refused seal, and one that is done
+-- a refused seal
 pub seal-refused : {code : ℕ} {r : Outcome} (limit : ℕ) (l : Link) (plain out : List ℕ) → code ≡ sealCode limit l plain (length out) → (code ≡ done → ⊥)
-    → r ≡ refusal code l [] .outcome → (r ≡ sealResult limit l plain out .outcome) × (out ≡ sealResult limit l plain out .buffer)
+    → r ≡ refusal code l [] .outcome → Gives r out (sealResult limit l plain out)
 unfolding sealResult
-seal-refused limit l plain out e h er =
-    let no : sealResult limit l plain out ≡ refusal (sealCode limit l plain (length out)) l out =
-    not-done _ (refusal (sealCode limit l plain (length out)) l out) (sealCode limit l plain (length out)) λ z. h (e ∙ z) in
-    rw (no, er, e) (refl, refl)
+seal-refused limit l plain out e h er = refused-is _ (sealCode limit l plain (length out)) l out e h er
 
--- a plain packet that seal's table lets pass
-pub seal-bounds : {code : ℕ} (limit : ℕ) (l : Link) (plain : List ℕ) (lent : ℕ) → code ≡ sealCode limit l plain lent → code ≡ done
-    → (length plain ≤ limit) × (4 + length plain ≤ lent)
+-- a record and a plain packet that seal's table lets pass
+pub seal-passed : {code : ℕ} (limit : ℕ) (l : Link) (plain : List ℕ) (lent : ℕ) → code ≡ sealCode limit l plain lent → code ≡ done
+    → (l .count < counts) × (length plain ≤ limit) × (front + length plain ≤ lent)
 unfolding sealCode
-seal-bounds limit l plain lent e z =
-    let none = rows-none ((notRecord, not (wellFormed l)) ∷ plainRows limit plain lent) (lit≤ tt, (lit≤ tt, (lit≤ tt, (lit≤ tt, tt)))) (sym e ∙ z) in
-    (within 2 limit (length plain) (none .1 .0) .1, ltb-false lent (4 + length plain) (none .1 .1 .1 .0))
+seal-passed limit l plain lent e z =
+    let rows : List (ℕ × Bool) = (notRecord, not (wellFormed l)) ∷ plainRows limit plain lent in
+    let zero = sym e ∙ z in
+    let well = not-false (wellFormed l) (clear notRecord rows refl zero .0) in
+    let long = within shortestPlain limit (length plain) (clear size rows refl zero .0) .1 in
+    (count-bound l well, long, ltb-false lent (front + length plain) (clear room rows refl zero .0))
 
 -- the part of a buffer behind a front that was put there
 part-behind : {out₁ : List ℕ} (head out : List ℕ) → out₁ ≡ written head out → length head ≡ 4
@@ -327,15 +227,14 @@ behind-put {out₁} head text out e ey h =
     (ey, lead, part, long, drop-length (drop 4 out), append-nil, append-assoc, length-append head text, h, drop-drop (length text) 4 out)
 
 pub seal-finished : {code count : ℕ} {next : Link} {cipher : Rc4} {out₁ ys : List ℕ} (l : Link) (plain out : List ℕ)
-    → code ≡ sealCode longestPlain l plain (length out) → code ≡ done → count ≡ (l .count + 1) % 4096
+    → code ≡ sealCode longestPlain l plain (length out) → code ≡ done → count ≡ (l .count + 1) % counts
     → next ≡ renewed l (changes (l .strength) (startKeyIn l) 1 (sessionKeyIn l)) count → out₁ ≡ written (0x00 ∷ 0xFD ∷ header count) out
-    → cipher ≡ keySchedule (take (keyLength (next .strength)) (next .session)) → ys ≡ runOut cipher plain (take (length out₁ - 4) (drop 4 out₁))
-    → (record { answer = done; changes = 1; link = next } ≡ sealResult longestPlain l plain out .outcome)
-    × (putMid 4 (length out₁ - 4) out₁ ys ≡ sealResult longestPlain l plain out .buffer)
+    → cipher ≡ keySchedule (sessionKeyIn next) → ys ≡ runOut cipher plain (take (length out₁ - 4) (drop 4 out₁))
+    → Gives (record { answer = done; changes = 1; link = next }) (putMid 4 (length out₁ - 4) out₁ ys) (sealResult longestPlain l plain out)
 unfolding sealResult sealedPacket
 seal-finished {code} {count} {next} {cipher} {out₁} {ys} l plain out e z ec en eo eci ey =
     let key : List ℕ = nextKey l in
-    let bounds = seal-bounds longestPlain l plain (length out) e z in
+    let bounds = seal-passed longestPlain l plain (length out) e z in
     let is : next ≡ renewed l key (nextCount l) = en ∙ rw (changes-one (l .strength) (startKeyIn l) (sessionKeyIn l), ec) in
     let keyed : cipher ≡ keySchedule key = eci ∙ rw (is, key-back (l .strength) key (keyChange-length (l .strength) (startKeyIn l) (sessionKeyIn l))) in
     let head : List ℕ = 0x00 ∷ 0xFD ∷ header (nextCount l) in
@@ -346,40 +245,65 @@ seal-finished {code} {count} {next} {cipher} {out₁} {ys} l plain out e z ec en
     ey ∙ rw (part, long, take-all (length (drop 4 out)) (drop 4 out) (omega arith), keyed, run-done (keySchedule key) plain (drop 4 out) (omega arith) (omega arith) .1) in
     rw (← e, z, is) (refl, behind-put head (rc4 key plain) out eh run-is refl)
 
--- a packet and a record that all rows but the last let pass
-pub front-passed : {code : ℕ} (limit : ℕ) (l : Link) (packet : List ℕ) (lent : ℕ) → code ≡ frontCode limit l packet lent → code ≡ done
-    → (wellFormed l ≡ true) × (6 ≤ length packet) × (length packet ≤ 4 + limit) × (length packet - 4 ≤ lent)
-    × (changesFor l packet ≡ 0 → ⊥)
-unfolding frontCode
-front-passed limit l packet lent e z =
-    let none = rows-none (frontRows limit l packet lent) (lit≤ tt, (lit≤ tt, (lit≤ tt, (lit≤ tt, (lit≤ tt, (lit≤ tt, (lit≤ tt, tt))))))) (sym e ∙ z) in
-    let bounds = within 6 (4 + limit) (length packet) (none .1 .0) in
-    (not-false (wellFormed l) (none .0), bounds .0, bounds .1, ltb-false lent (length packet - 4) (none .1 .1 .1 .1 .1 .1 .0), eqb-false (changesFor l packet) 0 (none .1 .1 .1 .1 .1 .0))
-
--- .. leave the last row to decide
-last-row : {code : ℕ} (limit : ℕ) (l : Link) (packet : List ℕ) (lent : ℕ) → code ≡ frontCode limit l packet lent → code ≡ done
-    → openCode limit l packet lent ≡ firstOf ((protocol, offProtocol (plainFor l packet)) ∷ [])
-unfolding frontCode openCode
-last-row limit l packet lent e z =
-    rows-pass (frontRows limit l packet lent) ((protocol, offProtocol (plainFor l packet)) ∷ [])
-    (lit≤ tt, (lit≤ tt, (lit≤ tt, (lit≤ tt, (lit≤ tt, (lit≤ tt, (lit≤ tt, tt))))))) (sym e ∙ z)
-
--- a refusal hands back record and buffer
-open-no : {code : ℕ} {r : Outcome} (limit : ℕ) (l : Link) (packet out : List ℕ) → code ≡ openCode limit l packet (length out) → (code ≡ done → ⊥)
-    → r ≡ refusal code l [] .outcome → (r ≡ openResult limit l packet out .outcome) × (out ≡ openResult limit l packet out .buffer)
-unfolding openResult
-open-no limit l packet out e h er =
-    let no : openResult limit l packet out ≡ refusal (openCode limit l packet (length out)) l out =
-    not-done _ (refusal (openCode limit l packet (length out)) l out) (openCode limit l packet (length out)) λ z. h (e ∙ z) in
-    rw (no, er, e) (refl, refl)
-
--- an open refused by a row before the last
-pub open-refused : {code : ℕ} {r : Outcome} (limit : ℕ) (l : Link) (packet out : List ℕ) → code ≡ frontCode limit l packet (length out) → (code ≡ done → ⊥)
-    → r ≡ refusal code l [] .outcome → (r ≡ openResult limit l packet out .outcome) × (out ≡ openResult limit l packet out .buffer)
+-- a packet refused by its shape or for its record
+pub open-refused : {code : ℕ} {r : Outcome} (limit : ℕ) (l : Link) (packet out : List ℕ) → code ≡ frontCode limit l packet → (code ≡ done → ⊥)
+    → r ≡ refusal code l [] .outcome → Gives r out (openResult limit l packet out)
+unfolding openResult openCode frontCode
 open-refused limit l packet out e h er =
-    let same : openCode limit l packet (length out) ≡ frontCode limit l packet (length out) =
-    unfold openCode frontCode in rows-stop (frontRows limit l packet (length out)) ((protocol, offProtocol (plainFor l packet)) ∷ []) (λ z. h (e ∙ z)) in
-    open-no limit l packet out (e ∙ sym same) h er
+    let h′ : ℕ = headerIn packet in
+    let stop = rows-stop (frontRows limit l packet) (headerRows l h′ ++ dataRows l h′ (dataIn packet) (length out)) λ z. h (e ∙ z) in
+    refused-is _ (openCode limit l packet (length out)) l out (unfold openCode in e ∙ sym stop) h er
+
+-- a record and a packet that these rows let pass
+pub front-passed : {code : ℕ} (limit : ℕ) (l : Link) (packet : List ℕ) → code ≡ frontCode limit l packet → code ≡ done
+    → (wellFormed l ≡ true) × (front + shortestPlain ≤ length packet) × (length packet ≤ front + limit)
+unfolding frontCode
+front-passed limit l packet e z =
+    let rows : List (ℕ × Bool) = frontRows limit l packet in
+    let zero = sym e ∙ z in
+    let (low, high) = within (front + shortestPlain) (front + limit) (length packet) (clear shape rows refl zero .0) in
+    (not-false (wellFormed l) (clear notRecord rows refl zero .0), low, high)
+
+-- the data of a packet, as a part of it
+pub data-part : (packet : List ℕ) → take (length packet - front) (drop front packet) ≡ dataIn packet
+data-part packet = take-all (length packet - front) (drop front packet) (omega (arith, length-drop front packet))
+
+pub data-bounds : {limit : ℕ} (packet : List ℕ) → front + shortestPlain ≤ length packet → length packet ≤ front + limit
+    → (shortestPlain ≤ length (take (length packet - front) (drop front packet))) × (length (take (length packet - front) (drop front packet)) ≤ limit)
+data-bounds packet low high =
+    let long = length-drop front packet in
+    rw (data-part packet) (omega (arith, long), omega (arith, long))
+
+-- .. leave it to those for header and data
+pub open-passed : {code h : ℕ} {r : Outcome} {out₁ : List ℕ} (limit : ℕ) (l : Link) (packet out : List ℕ) → code ≡ frontCode limit l packet → code ≡ done
+    → h ≡ headerIn packet → Gives r out₁ (dataResult l h (take (length packet - front) (drop front packet)) out)
+    → Gives r out₁ (openResult limit l packet out)
+unfolding openResult openCode frontCode dataResult
+open-passed limit l packet out e z eh made =
+    let h′ : ℕ = headerIn packet in
+    let pass = rows-pass (frontRows limit l packet) (headerRows l h′ ++ dataRows l h′ (dataIn packet) (length out)) refl (sym e ∙ z) in
+    rw pass (rw (eh, data-part packet) at made)
+
+-- data refused by a row before the last
+pub data-refused : {code far : ℕ} {r : Outcome} (l : Link) (h : ℕ) (text out : List ℕ) → far ≡ changesFor l h
+    → code ≡ headerCode h far (length text) (length out) → (code ≡ done → ⊥) → r ≡ refusal code l [] .outcome → Gives r out (dataResult l h text out)
+unfolding dataResult headerCode
+data-refused {code} l h text out ef e some er =
+    let rows : List (ℕ × Bool) = headerRows l h ++ ((room, ltb (length out) (length text)) ∷ []) in
+    let last : List (ℕ × Bool) = (protocol, offProtocol (plainFor l h text)) ∷ [] in
+    let e′ : code ≡ firstOf rows = e ∙ rw ef in
+    refused-is _ (firstOf (rows ++ last)) l out (e′ ∙ sym (rows-stop rows last λ z. some (e′ ∙ z))) some er
+
+-- data that these rows let pass: the key is changed, there is room, and the last row decides
+pub data-passed : {code : ℕ} (far : ℕ) (l : Link) (h : ℕ) (text : List ℕ) (lent : ℕ) → code ≡ headerCode h far (length text) lent → code ≡ done
+    → (far ≡ 0 → ⊥) × (length text ≤ lent)
+    × (far ≡ changesFor l h → firstOf (headerRows l h ++ dataRows l h text lent) ≡ firstOf ((protocol, offProtocol (plainFor l h text)) ∷ []))
+unfolding headerCode
+data-passed far l h text lent e z =
+    let rows : List (ℕ × Bool) = (flags, lacks bitA h) ∷ (flags, lacks bitD h) ∷ (repeat, eqb far 0) ∷ (room, ltb lent (length text)) ∷ [] in
+    let last : List (ℕ × Bool) = (protocol, offProtocol (plainFor l h text)) ∷ [] in
+    let zero = sym e ∙ z in
+    (eqb-false far 0 (clear repeat rows refl zero .0), ltb-false lent (length text) (clear room rows refl zero .0), λ ef. rw (← ef) (rows-pass rows last refl zero))
 
 -- a key that is changed at least once has its strength's octets
 changed-length : (s : Strength) (start session : List ℕ) (n : ℕ) → (n ≡ 0 → ⊥) → length (changes s start n session) ≡ keyLength s
@@ -387,54 +311,43 @@ unfolding changes
 changed-length s start session zero h = absurd (h refl)
 changed-length s start session (suc n) h = keyChange-length s start (changes s start n session)
 
--- what code works out of a packet that they let pass
-abbrev pub Worked : Link → List ℕ → ℕ → ℕ → ℕ → Link → Rc4 → Type 0
-Worked l packet h count d next cipher =
-    (h ≡ pairAt 2 packet) × (count ≡ h % 4096) × (d ≡ distance (l .count % 4096) (count % 4096))
-    × (next ≡ renewed l (changes (l .strength) (startKeyIn l) d (sessionKeyIn l)) count) × (cipher ≡ keySchedule (take (keyLength (next .strength)) (next .session)))
+-- what code works out of a header: the record after it, and its cipher
+abbrev pub Worked : Link → ℕ → ℕ → Link → Rc4 → Type 0
+Worked l h far next cipher =
+    (far ≡ changesFor l h)
+    × (next ≡ renewed l (changes (l .strength) (startKeyIn l) far (sessionKeyIn l)) (countOf h))
+    × (cipher ≡ keySchedule (sessionKeyIn next))
 
-worked-is : {code h count d : ℕ} {next : Link} {cipher : Rc4} (limit : ℕ) (l : Link) (packet : List ℕ) (lent : ℕ) → code ≡ frontCode limit l packet lent
-    → code ≡ done → Worked l packet h count d next cipher
-    → (d ≡ changesFor l packet) × (next ≡ renewed l (keyFor l packet) (countIn packet)) × (run cipher (take (length packet - 4) (drop 4 packet)) ≡ plainFor l packet)
-unfolding keyFor plainFor
-worked-is {code} {h} {count} {d} {next} {cipher} limit l packet lent e z (eh, ec, ed, en, eci) =
-    let (w, low, high, room, new) = front-passed limit l packet lent e z in
-    let counted : count ≡ countIn packet = ec ∙ ap (λ (n : ℕ). n % 4096) eh in
-    let near : d ≡ changesFor l packet = near-is l packet w eh (ed ∙ rw ec) in
-    let is : next ≡ renewed l (keyFor l packet) (countIn packet) = en ∙ rw (near, counted) in
-    let long = changed-length (l .strength) (startKeyIn l) (sessionKeyIn l) (changesFor l packet) new in
-    let keyed : cipher ≡ keySchedule (keyFor l packet) = eci ∙ rw (is, key-back (l .strength) (keyFor l packet) long) in
-    let all : take (length packet - 4) (drop 4 packet) ≡ drop 4 packet = take-all (length packet - 4) (drop 4 packet) (omega (arith, length-drop 4 packet)) in
-    (near, is, rw (all, keyed))
+worked-is : {next : Link} {cipher : Rc4} (far : ℕ) (l : Link) (h : ℕ) → Worked l h far next cipher → (far ≡ 0 → ⊥)
+    → (next ≡ linkAfter l h) × (cipher ≡ keySchedule (keyFor l h))
+unfolding keyFor
+worked-is {next} far l h (ef, en, ec) new =
+    let is : next ≡ linkAfter l h = unfold keyFor in en ∙ rw ef in
+    let long = changed-length (l .strength) (startKeyIn l) (sessionKeyIn l) (changesFor l h) λ z. new (ef ∙ z) in
+    (is, ec ∙ rw (is, key-back (l .strength) (keyFor l h) long))
 
--- an open refused by the last row
-pub open-off : {code h count d : ℕ} {next : Link} {cipher : Rc4} {off : Bool} {r : Outcome} (limit : ℕ) (l : Link) (packet out : List ℕ)
-    → code ≡ frontCode limit l packet (length out) → code ≡ done → Worked l packet h count d next cipher
-    → off ≡ offProtocol (run cipher (take (length packet - 4) (drop 4 packet))) → off ≡ true → r ≡ refusal protocol l [] .outcome
-    → (r ≡ openResult limit l packet out .outcome) × (out ≡ openResult limit l packet out .buffer)
-open-off limit l packet out e z made eo t er =
-    let (near, is, text) = worked-is limit l packet (length out) e z made in
-    let off : offProtocol (plainFor l packet) ≡ true = rw (← text) (sym eo ∙ t) in
-    let code : protocol ≡ openCode limit l packet (length out) = sym (last-row limit l packet (length out) e z ∙ rw off) in
-    open-no limit l packet out code (λ q. omega (arith, q)) er
+-- data refused by the last row
+pub data-off : {code far : ℕ} {next : Link} {cipher : Rc4} {off : Bool} {r : Outcome} (l : Link) (h : ℕ) (text out : List ℕ)
+    → code ≡ headerCode h far (length text) (length out) → code ≡ done → Worked l h far next cipher
+    → off ≡ offProtocol (run cipher text) → off ≡ true → r ≡ refusal protocol l [] .outcome → Gives r out (dataResult l h text out)
+unfolding dataResult plainFor
+data-off {code} {far} l h text out e z made eo t er =
+    let (new, fits, last) = data-passed far l h text (length out) e z in
+    let (is, keyed) = worked-is far l h made new in
+    let off : offProtocol (plainFor l h text) ≡ true = unfold plainFor in rw (← keyed) (sym eo ∙ t) in
+    let code : protocol ≡ firstOf (headerRows l h ++ dataRows l h text (length out)) = sym (last (made .0) ∙ rw off) in
+    refused-is _ (firstOf (headerRows l h ++ dataRows l h text (length out))) l out code (λ q. omega (arith, q)) er
 
--- an open that is done
-pub open-finished : {code h count d : ℕ} {next : Link} {cipher : Rc4} {off : Bool} {out₁ : List ℕ} (limit : ℕ) (l : Link) (packet out : List ℕ)
-    → code ≡ frontCode limit l packet (length out) → code ≡ done → Worked l packet h count d next cipher
-    → off ≡ offProtocol (run cipher (take (length packet - 4) (drop 4 packet))) → off ≡ false
-    → out₁ ≡ runOut cipher (take (length packet - 4) (drop 4 packet)) out → limit ≤ longestText
-    → (record { answer = done; changes = d; link = next } ≡ openResult limit l packet out .outcome) × (out₁ ≡ openResult limit l packet out .buffer)
-unfolding openResult
-open-finished {code} {h} {count} {d} {next} {cipher} {off} {out₁} limit l packet out e z made eo t er small =
-    let (w, low, high, room, new) = front-passed limit l packet (length out) e z in
-    let (near, is, text) = worked-is limit l packet (length out) e z made in
-    let part : List ℕ = take (length packet - 4) (drop 4 packet) in
-    let long : length part ≡ length packet - 4 = length-take-le (length packet - 4) (drop 4 packet) (omega (arith, length-drop 4 packet)) in
-    let ran : out₁ ≡ written (run cipher part) out = er ∙ run-done cipher part out (omega (arith, long, high, small)) (omega (arith, long, room)) .1 in
-    let off : offProtocol (plainFor l packet) ≡ false = rw (← text) (sym eo ∙ t) in
-    let code : openCode limit l packet (length out) ≡ done = last-row limit l packet (length out) e z ∙ rw off in
-    rw (code, near, is) (refl, ran ∙ ap (λ (plain : List ℕ). written plain out) text)
-
--- its data begin with two octets
-pub two-more : (packet : List ℕ) → 6 ≤ length packet → 2 ≤ length (take (length packet - 4) (drop 4 packet))
-two-more packet h = omega (arith, length-take-le (length packet - 4) (drop 4 packet) (omega (arith, length-drop 4 packet)))
+-- data that are opened
+pub data-opened : {code far : ℕ} {next : Link} {cipher : Rc4} {off : Bool} {out₁ : List ℕ} (l : Link) (h : ℕ) (text out : List ℕ)
+    → code ≡ headerCode h far (length text) (length out) → code ≡ done → Worked l h far next cipher
+    → off ≡ offProtocol (run cipher text) → off ≡ false → out₁ ≡ runOut cipher text out → length text ≤ longestPlain
+    → Gives (record { answer = done; changes = far; link = next }) out₁ (dataResult l h text out)
+unfolding dataResult plainFor
+data-opened {code} {far} {next} {cipher} {off} {out₁} l h text out e z made eo t er small =
+    let (new, fits, last) = data-passed far l h text (length out) e z in
+    let (is, keyed) = worked-is far l h made new in
+    let off : offProtocol (plainFor l h text) ≡ false = unfold plainFor in rw (← keyed) (sym eo ∙ t) in
+    let code : firstOf (headerRows l h ++ dataRows l h text (length out)) ≡ done = last (made .0) ∙ rw off in
+    let ran : out₁ ≡ written (plainFor l h text) out = unfold plainFor in er ∙ run-done cipher text out (omega arith) fits .1 ∙ rw keyed in
+    rw (code, is, made .0) (refl, ran)

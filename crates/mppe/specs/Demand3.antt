@@ -1,39 +1,36 @@
--- Demand 3, proved: for every limit of a plain packet, and every number of packets lost in a row up to 4,094.
+-- Demand 3, proved: for every limit of a plain packet, and every number of packets lost in a row below the farthest distance.
 use mathlib.Core.Path.{_≡_, refl, ap, subst, subst₂, _∙_}
-use mathlib.Core.Bool.{Bool, true, false, not}
+use mathlib.Core.Bool.{true, false}
 use mathlib.Core.Logic.{_≢_}
 use mathlib.Core.List.{List, [], _∷_, _++_}
 use Prim.Native.Nat.{ℕ, zero, suc, _+_, _-_, _%_, _<_, _≤_}
 use native.Mathlib.Nat.{zero-add, add-zero}
 use native.Mathlib.Omega.{arith}
-use lib.Dec.{eqb, ltb, lit≤}
+use lib.Dec.{eqb, ltb, lit<}
 use lib.ListN.{length}
-use borrow.Author.Tests.{le-ltb, eq-eqb, ne-eqb, eqb-true}
-use Rattle.answer.specs.Answer.{done, room, size, protocol, repeat, outside, firstOf, onDone}
-use Rattle.octets.specs.Octets.{written}
+use borrow.Author.Tests.{le-ltb, eq-eqb, ne-eqb}
+use Rattle.answer.specs.Answer.{done, size, protocol, repeat, outside, firstOf, onDone, wrong}
+use Rattle.answer.specs.Laws.{clear, rows-pass, not-done, outside-none, within, right, right-length}
+use Rattle.octets.specs.Octets.{pairAt, written}
 use Rattle.rc4.specs.Cipher.{keySchedule}
-use Rattle.rc4.specs.Laws.{run-twice}
+use Rattle.rc4.specs.Laws.{run-length, run-twice}
 use Rattle.mppe_keys.specs.declared.Strength.{Strength}
-use Rattle.mppe_keys.specs.Keys.{keyLength, initialKey, keyChange, changes}
+use Rattle.mppe_keys.specs.Keys.{keyLength, initialKey, keyChange, changes, rc4}
 use Rattle.mppe_keys.specs.Laws.{initialKey-length, initialKey-head, changes-length, changes-head, changes-add}
 use Rattle.mppe.specs.declared.Link.{Link}
-use Rattle.mppe.specs.Link.{longestPlain, wellFormed, startKeyIn, sessionKeyIn, renewed, nextKey, nextCount, linkOf, newLink, newLinkCode, pairAt, offProtocol, bitA, bitD, lacks, sealedPacket, countIn, Result, finished, refusal, plainRows, sealCode, sealResult, changesFor, packetRows, laterRows, keyFor, plainFor, openCode, openResult}
-use Rattle.mppe.specs.Laws.{rows-none, rows-pass, within, outside-none, key-back, well, sealed-length, sealed-count, sealed-A, sealed-D, distance-is}
+use Rattle.mppe.specs.Link.{shortestPlain, longestPlain, front, counts, newCount, farthest, wellFormed, startKeyIn, sessionKeyIn, renewed, nextKey, nextCount, linkOf, newLink, newLinkCode, offProtocol, bitA, bitD, sealedPacket, headerIn, dataIn, countOf, Result, finished, refusal, plainRows, sealCode, sealResult, changesFor, keyFor, plainFor, frontRows, headerRows, dataRows, openCode, openResult}
+use Rattle.mppe.specs.Laws.{key-back, well, sealed-length, sealed-header, header-count, header-A, header-D, distance-is}
 use Rattle.mppe.specs.Run.{mostLost, SealCall, OpenCall, arrival, other, Packet, History, sealRun, openRun, saidCode, first, beginning, packetOf, onward, packets, said, numbered, Meets, due, Demand3}
 
 -- a packet that may be sealed: its plain packet is within the limit and has a protocol number that is carried
 abbrev pub Sealable : ℕ → List ℕ → Type 0
-Sealable limit plain = (outside 2 limit (length plain) ≡ false) × (offProtocol plain ≡ false)
+Sealable limit plain = (outside shortestPlain limit (length plain) ≡ false) × (offProtocol plain ≡ false)
 
 -- a call that the table refuses
 pub open-other : (limit : ℕ) (l : Link) (packet lent : List ℕ) → openCode limit l packet (length lent) ≢ done
     → openResult limit l packet lent ≡ refusal (openCode limit l packet (length lent)) l lent
 unfolding openResult
-open-other limit l packet lent not0 = refused _ (openCode limit l packet (length lent)) not0
-  where
-    refused : (r : Result) (code : ℕ) → code ≢ done → onDone code r (refusal code l lent) ≡ refusal code l lent
-    refused r zero not0 = absurd (not0 refl)
-    refused r (suc n) not0 = refl
+open-other limit l packet lent not0 = not-done (openCode limit l packet (length lent)) _ (refusal (openCode limit l packet (length lent)) l lent) not0
 
 module _ (s : Strength) (start : List ℕ) where
   -- both ends as they are when m packets are sealed: the session key, the record, the history
@@ -41,7 +38,7 @@ module _ (s : Strength) (start : List ℕ) where
   keyAt m = changes s start m (initialKey s start)
 
   unfoldable pub recordAt : ℕ → Link
-  recordAt m = linkOf s start (keyAt m) ((m + 4095) % 4096)
+  recordAt m = linkOf s start (keyAt m) ((m + newCount) % counts)
 
   unfoldable pub historyAt : ℕ → History
   historyAt m = record { number = m; session = keyAt m }
@@ -49,16 +46,12 @@ module _ (s : Strength) (start : List ℕ) where
   -- packet q of a plain packet
   unfoldable pub packetAt : ℕ → List ℕ → Packet
   packetAt q plain =
-      record { plain = plain; octets = sealedPacket (keyAt (suc q)) (q % 4096) plain; link = recordAt (suc q) }
+      record { plain = plain; octets = sealedPacket (keyAt (suc q)) (q % counts) plain; link = recordAt (suc q) }
 
   -- a start key that is not refused has its strength's octets ..
   pub start-length : newLink s start .answer ≡ done → length start ≡ keyLength s
   unfolding newLink
-  start-length h = eqb-true (length start) (keyLength s) (taken (eqb (length start) (keyLength s)) h)
-    where
-      taken : (t : Bool) → firstOf ((size, not t) ∷ []) ≡ done → t ≡ true
-      taken true h = refl
-      taken false h = absurd (omega arith)
+  start-length h = right-length (keyLength s) start (clear size ((size, wrong (keyLength s) start) ∷ []) refl h .0)
 
   -- from here on it has them
   module _ (h : length start ≡ keyLength s) where
@@ -66,7 +59,7 @@ module _ (s : Strength) (start : List ℕ) where
     pub first-is : first s start ≡ recordAt 0
     unfolding newLink recordAt keyAt changes
     first-is =
-        let code : newLinkCode s start ≡ done = rw (eq-eqb (length start) (keyLength s) h) in
+        let code : newLinkCode s start ≡ done = rw (right (keyLength s) start h) in
         rw code
 
     -- it is well formed at all times
@@ -75,17 +68,17 @@ module _ (s : Strength) (start : List ℕ) where
     well-at m =
         let long = changes-length s start m (initialKey s start) (initialKey-length s start) in
         let head = changes-head s start m (initialKey s start) (initialKey-head s start) in
-        well s start (keyAt m) ((m + 4095) % 4096) h long head (omega arith)
+        well s start (keyAt m) ((m + newCount) % counts) h long head (omega arith)
 
     -- what the history says next, in terms of m
     pub key-next : (m : ℕ) → keyChange s start (keyAt m) ≡ keyAt (suc m)
     unfolding keyAt changes
     key-next m = refl
 
-    pub record-next : (m : ℕ) → linkOf s start (keyAt (suc m)) (m % 4096) ≡ recordAt (suc m)
+    pub record-next : (m : ℕ) → linkOf s start (keyAt (suc m)) (m % counts) ≡ recordAt (suc m)
     unfolding recordAt
     record-next m =
-        let same : m % 4096 ≡ (suc m + 4095) % 4096 = omega arith in
+        let same : m % counts ≡ (suc m + newCount) % counts = omega arith in
         rw same
 
     pub packet-is : (m : ℕ) (plain : List ℕ)
@@ -102,7 +95,7 @@ module _ (s : Strength) (start : List ℕ) where
     unfolding recordAt keyAt
     session-in m = key-back s (keyAt m) (changes-length s start m (initialKey s start) (initialKey-length s start))
 
-    renewed-at : (m q : ℕ) → renewed (recordAt m) (keyAt (suc q)) (q % 4096) ≡ recordAt (suc q)
+    renewed-at : (m q : ℕ) → renewed (recordAt m) (keyAt (suc q)) (q % counts) ≡ recordAt (suc q)
     unfolding recordAt
     renewed-at m q = record-next q
 
@@ -110,34 +103,30 @@ module _ (s : Strength) (start : List ℕ) where
     unfolding recordAt
     nextKey-at m = rw (start-in m, session-in m, key-next m)
 
-    nextCount-at : (m : ℕ) → nextCount (recordAt m) ≡ m % 4096
+    nextCount-at : (m : ℕ) → nextCount (recordAt m) ≡ m % counts
     unfolding recordAt
     nextCount-at m = omega arith
 
-    -- what the receiver makes of packet q when the last that it opened is the one before `next`
-    changes-at : (next q : ℕ) (packet : List ℕ) → countIn packet ≡ q % 4096 → next ≤ q → q - next ≤ 4094
-        → changesFor (recordAt next) packet ≡ suc (q - next)
-    unfolding recordAt
-    changes-at next q packet count low near = rw count (distance-is next q low near)
+    -- what the receiver makes of packet q's header when the last that it opened is the one before `next`
+    abbrev headerAt : ℕ → ℕ
+    headerAt q = bitA + bitD + q % counts
 
-    key-at : (next q : ℕ) (packet : List ℕ)
-        → changesFor (recordAt next) packet ≡ suc (q - next) → next ≤ q → keyFor (recordAt next) packet ≡ keyAt (suc q)
+    changes-at : (next q : ℕ) → next ≤ q → q - next < farthest → changesFor (recordAt next) (headerAt q) ≡ suc (q - next)
+    unfolding recordAt
+    changes-at next q low near = rw (header-count (q % counts) (omega arith)) (distance-is next q low near)
+
+    key-at : (next q : ℕ) → changesFor (recordAt next) (headerAt q) ≡ suc (q - next) → next ≤ q → keyFor (recordAt next) (headerAt q) ≡ keyAt (suc q)
     unfolding keyFor recordAt
-    key-at next q packet e low =
+    key-at next q e low =
         let all : next + suc (q - next) ≡ suc q = omega arith in
         let add : changes s start (suc (q - next)) (keyAt next) ≡ keyAt (next + suc (q - next)) =
         unfold keyAt in changes-add s start next (suc (q - next)) (initialKey s start) in
         rw (e, start-in next, session-in next) (add ∙ ap keyAt all)
 
-    plain-at : (next q : ℕ) (plain : List ℕ) → keyFor (recordAt next) (packetAt q plain .octets) ≡ keyAt (suc q)
-        → plainFor (recordAt next) (packetAt q plain .octets) ≡ plain
-    unfolding plainFor packetAt sealedPacket
-    plain-at next q plain e = rw e (run-twice (keySchedule (keyAt (suc q))) plain)
-
     -- .. and of the packet that it opened last
-    none-at : (q : ℕ) (packet : List ℕ) → countIn packet ≡ q % 4096 → changesFor (recordAt (suc q)) packet ≡ 0
+    none-at : (q : ℕ) → changesFor (recordAt (suc q)) (headerAt q) ≡ 0
     unfolding recordAt
-    none-at q packet count = rw count (omega arith)
+    none-at q = rw (header-count (q % counts) (omega arith)) (omega arith)
 
     -- `limit` is the longest plain packet
     module _ (limit : ℕ) where
@@ -189,8 +178,8 @@ module _ (s : Strength) (start : List ℕ) where
       sealable : (c : SealCall) → saidCode limit c ≡ done → Sealable limit (c .plain)
       unfolding saidCode
       sealable c e =
-          let none = rows-none (plainRows limit (c .plain) (length (c .room))) (lit≤ tt, (lit≤ tt, (lit≤ tt, tt))) e in
-          (none .0, none .1 .0)
+          let rows = plainRows limit (c .plain) (length (c .room)) in
+          (clear size rows refl e .0, clear protocol rows refl e .0)
 
       packets-on : (m code : ℕ) (c : SealCall) (cs : List SealCall) → saidCode limit c ≡ code
           → ((n : ℕ) → AllAt n (packets limit s start (historyAt n) cs))
@@ -218,68 +207,63 @@ module _ (s : Strength) (start : List ℕ) where
           let e : m + suc i ≡ suc m + i = omega arith in
           rw e (numbered-at (suc m) ps i (all .1) (omega arith))
 
-      -- a packet on the line passes the rows that it alone decides, so those that the record decides with it answer
-      line-rows : (q : ℕ) (plain : List ℕ) → Sealable limit plain
-          → firstOf (packetRows limit (packetAt q plain .octets)) ≡ done
-      line-rows q plain can =
+      -- a packet on the line: its header, its data, and the rows that it passes whatever was opened last
+      line-header : (q : ℕ) (plain : List ℕ) → headerIn (packetAt q plain .octets) ≡ headerAt q
+      unfolding packetAt
+      line-header q plain = sealed-header (keyAt (suc q)) (q % counts) plain (omega arith)
+
+      line-data : (q : ℕ) (plain : List ℕ) → dataIn (packetAt q plain .octets) ≡ rc4 (keyAt (suc q)) plain
+      unfolding packetAt sealedPacket
+      line-data q plain = refl
+
+      line-front : (m q : ℕ) (plain : List ℕ) → Sealable limit plain → firstOf (frontRows limit (recordAt m) (packetAt q plain .octets)) ≡ done
+      line-front m q plain can =
           let packet : List ℕ = packetAt q plain .octets in
-          let long : length packet ≡ 4 + length plain = unfold packetAt in sealed-length (keyAt (suc q)) (q % 4096) plain in
-          let bounds = within 2 limit (length plain) (can .0) in
-          let whole : outside 6 (4 + limit) (length packet) ≡ false =
-          outside-none 6 (4 + limit) (length packet) (omega (arith, long, bounds .0)) (omega (arith, long, bounds .1)) in
+          let long : length packet ≡ front + length plain = unfold packetAt in sealed-length (keyAt (suc q)) (q % counts) plain in
+          let (low, high) = within shortestPlain limit (length plain) (can .0) in
+          let whole : outside (front + shortestPlain) (front + limit) (length packet) ≡ false =
+          outside-none (front + shortestPlain) (front + limit) (length packet) (omega (arith, long, low)) (omega (arith, long, high)) in
           let pair : eqb (pairAt 0 packet) 0x00FD ≡ true = unfold packetAt sealedPacket in refl in
-          let flagA : lacks bitA packet ≡ false = unfold packetAt in sealed-A (keyAt (suc q)) (q % 4096) plain (omega arith) in
-          let flagD : lacks bitD packet ≡ false = unfold packetAt in sealed-D (keyAt (suc q)) (q % 4096) plain (omega arith) in
-          rw (whole, pair, flagA, flagD)
+          rw (well-at m, whole, pair)
 
       line-code : (m q : ℕ) (plain : List ℕ) (lent : ℕ) → Sealable limit plain
-          → let packet = packetAt q plain .octets in
-          openCode limit (recordAt m) packet lent
-          ≡ firstOf (laterRows (recordAt m) packet lent ++ ((protocol, offProtocol (plainFor (recordAt m) packet)) ∷ []))
+          → openCode limit (recordAt m) (packetAt q plain .octets) lent
+          ≡ firstOf ((repeat, eqb (changesFor (recordAt m) (headerAt q)) 0) ∷ dataRows (recordAt m) (headerAt q) (rc4 (keyAt (suc q)) plain) lent)
       unfolding openCode
       line-code m q plain lent can =
           let packet : List ℕ = packetAt q plain .octets in
-          rw (well-at m)
-          (rows-pass (packetRows limit packet) (laterRows (recordAt m) packet lent ++ ((protocol, offProtocol (plainFor (recordAt m) packet)) ∷ []))
-          (lit≤ tt, (lit≤ tt, (lit≤ tt, (lit≤ tt, tt)))) (line-rows q plain can))
+          let h : ℕ = headerIn packet in
+          rows-pass (frontRows limit (recordAt m) packet) (headerRows (recordAt m) h ++ dataRows (recordAt m) h (dataIn packet) lent) refl (line-front m q plain can)
+          ∙ rw (line-header q plain, line-data q plain, header-A (q % counts) (omega arith), header-D (q % counts) (omega arith))
 
-      open-code : (next q : ℕ) (plain : List ℕ) (lent : ℕ) → Sealable limit plain
-          → length plain ≤ lent
-          → changesFor (recordAt next) (packetAt q plain .octets) ≡ suc (q - next)
-          → plainFor (recordAt next) (packetAt q plain .octets) ≡ plain
-          → openCode limit (recordAt next) (packetAt q plain .octets) lent ≡ done
-      open-code next q plain lent can fits e text =
-          let packet : List ℕ = packetAt q plain .octets in
-          let long : length packet ≡ 4 + length plain = unfold packetAt in sealed-length (keyAt (suc q)) (q % 4096) plain in
-          let new : eqb (changesFor (recordAt next) packet) 0 ≡ false = ne-eqb (changesFor (recordAt next) packet) 0 (λ z. omega (arith, e, z)) in
-          let roomy : ltb lent (length packet - 4) ≡ false = le-ltb lent (length packet - 4) (omega (arith, long)) in
-          let carried : offProtocol (plainFor (recordAt next) packet) ≡ false = rw text (can .1) in
-          line-code next q plain lent can ∙ rw (new, roomy, carried)
+      -- an arrival opens as is due
+      pub open-arrival : (next q : ℕ) (plain lent : List ℕ) → Sealable limit plain → next ≤ q → q - next < farthest → length plain ≤ length lent
+          → openResult limit (recordAt next) (packetAt q plain .octets) lent
+          ≡ finished (suc (q - next)) (recordAt (suc q)) (written plain lent)
+      unfolding openResult
+      open-arrival next q plain lent can low near fits =
+          let text : List ℕ = rc4 (keyAt (suc q)) plain in
+          let long : length text ≡ length plain = run-length (keySchedule (keyAt (suc q))) plain in
+          let made = changes-at next q low near in
+          let key = key-at next q made low in
+          let opened : plainFor (recordAt next) (headerAt q) text ≡ plain =
+          unfold plainFor in rw key (run-twice (keySchedule (keyAt (suc q))) plain) in
+          let new : eqb (changesFor (recordAt next) (headerAt q)) 0 ≡ false =
+          ne-eqb (changesFor (recordAt next) (headerAt q)) 0 (λ z. omega (arith, made, z)) in
+          let roomy : ltb (length lent) (length text) ≡ false = le-ltb (length lent) (length text) (omega (arith, long)) in
+          let carried : offProtocol (plainFor (recordAt next) (headerAt q) text) ≡ false = rw opened (can .1) in
+          let code : openCode limit (recordAt next) (packetAt q plain .octets) (length lent) ≡ done =
+          line-code next q plain (length lent) can ∙ rw (new, roomy, carried) in
+          rw (code, line-header q plain, line-data q plain, opened, made, key, header-count (q % counts) (omega arith), renewed-at next q)
 
       -- the packet that was opened last is a repeat
       pub repeat-code : (q : ℕ) (plain : List ℕ) (lent : ℕ) → Sealable limit plain
           → openCode limit (recordAt (suc q)) (packetAt q plain .octets) lent ≡ repeat
       repeat-code q plain lent can =
-          let packet : List ℕ = packetAt q plain .octets in
-          let count : countIn packet ≡ q % 4096 = unfold packetAt in sealed-count (keyAt (suc q)) (q % 4096) plain (omega arith) in
-          line-code (suc q) q plain lent can ∙ rw (eq-eqb (changesFor (recordAt (suc q)) packet) 0 (none-at q packet count))
-
-      -- an arrival opens as is due
-      pub open-arrival : (next q : ℕ) (plain lent : List ℕ) → Sealable limit plain
-          → next ≤ q → q - next ≤ 4094 → length plain ≤ length lent
-          → openResult limit (recordAt next) (packetAt q plain .octets) lent
-          ≡ finished (suc (q - next)) (recordAt (suc q)) (written plain lent)
-      unfolding openResult
-      open-arrival next q plain lent can low near fits =
-          let packet : List ℕ = packetAt q plain .octets in
-          let count : countIn packet ≡ q % 4096 = unfold packetAt in sealed-count (keyAt (suc q)) (q % 4096) plain (omega arith) in
-          let made = changes-at next q packet count low near in
-          let key = key-at next q packet made low in
-          let text = plain-at next q plain key in
-          rw (open-code next q plain (length lent) can fits made text, made, key, count, text, renewed-at next q)
+          line-code (suc q) q plain lent can ∙ rw (eq-eqb (changesFor (recordAt (suc q)) (headerAt q)) 0 (none-at q))
 
       -- the receiver's results
-      opens-all : (most : ℕ) (ps : List Packet) (next : ℕ) (cs : List OpenCall) → most ≤ 4094
+      opens-all : (most : ℕ) (ps : List Packet) (next : ℕ) (cs : List OpenCall) → most < farthest
           → AllAt 0 ps → Meets limit s start ps most next (recordAt next) cs
           → openRun limit (recordAt next) cs ≡ due limit s start ps next (recordAt next) cs
       unfolding openRun due Meets
@@ -299,8 +283,8 @@ module _ (s : Strength) (start : List ℕ) where
           rw (open-other limit (recordAt next) octets lent not0)
           (ap (λ (rs : List Result). r ∷ rs) (opens-all most ps next cs bound all rest))
 
--- demand 3 for every limit and every number lost in a row up to 4,094
-pub demand-3 : (limit most : ℕ) → most ≤ 4094 → Demand3 limit most
+-- demand 3 for every limit and every number lost in a row below the farthest distance
+pub demand-3 : (limit most : ℕ) → most < farthest → Demand3 limit most
 unfolding Demand3
 demand-3 limit most bound s start ok seals opens line =
     let h = start-length s start ok in
@@ -313,4 +297,4 @@ demand-3 limit most bound s start ok seals opens line =
 
 -- demand 3 at the base's limits
 pub demand-3-base : Demand3 longestPlain mostLost
-demand-3-base = demand-3 longestPlain mostLost (lit≤ tt)
+demand-3-base = demand-3 longestPlain mostLost (lit< tt)

@@ -1,54 +1,22 @@
 -- What holds of records, packets and counts, once over the strengths.
 use mathlib.Core.Path.{_≡_, refl, ap}
-use mathlib.Core.Bool.{Bool, true, false, true≢false}
+use mathlib.Core.Bool.{Bool, true, false, _&&_, false≢true}
 use mathlib.Core.List.{List, [], _∷_, _++_}
 use Prim.Native.Nat.{ℕ, zero, suc, _+_, _-_, _/_, _%_, _<_, _≤_}
 use native.Mathlib.Omega.{arith}
-use lib.Dec.{ltb}
 use lib.ListN.{length, take, drop, getD, replicate}
 use lib.Seq.{take-append-seam, drop-append-seam}
-use borrow.Author.Tests.{lt-ltb, le-ltb, ltb-false, eq-eqb}
-use Rattle.answer.specs.Answer.{done, pick, outside, firstOf}
+use borrow.Author.Tests.{lt-ltb, eq-eqb}
 use Rattle.rc4.specs.Cipher.{keySchedule}
 use Rattle.rc4.specs.Laws.{run-length}
 use Rattle.mppe_keys.specs.declared.Strength.{Strength}
 use Rattle.mppe_keys.specs.Keys.{keyLength, headOf, placed}
-use Rattle.mppe.specs.Link.{zeros, begins, wellFormed, linkOf, bitA, bitD, sealedPacket, pairAt, countIn, lacks, distance}
+use Rattle.mppe.specs.Link.{front, counts, newCount, zeros, begins, wellFormed, linkOf, bitA, bitD, sealedPacket, headerIn, countOf, lacks, distance, farthest}
 
--- rows whose numbers are refusals: where none of them applies those behind decide, and otherwise the first of them that does
-abbrev pub Refusals : List (ℕ × Bool) → Type 0
-Refusals [] = Unit {0}
-Refusals (row ∷ rows) = (1 ≤ row .0) × Refusals rows
-
-abbrev pub NoneApplies : List (ℕ × Bool) → Type 0
-NoneApplies [] = Unit {0}
-NoneApplies (row ∷ rows) = (row .1 ≡ false) × NoneApplies rows
-
-pub rows-none : (rows : List (ℕ × Bool)) → Refusals rows → firstOf rows ≡ done → NoneApplies rows
-rows-none [] all e = tt
-rows-none ((n, true) ∷ rows) (some, all) e = absurd (omega arith)
-rows-none ((n, false) ∷ rows) (some, all) e = (refl, rows-none rows all e)
-
-pub rows-pass : (rows rest : List (ℕ × Bool)) → Refusals rows → firstOf rows ≡ done → firstOf (rows ++ rest) ≡ firstOf rest
-rows-pass [] rest all e = refl
-rows-pass ((n, true) ∷ rows) rest (some, all) e = absurd (omega arith)
-rows-pass ((n, false) ∷ rows) rest (some, all) e = rows-pass rows rest all e
-
-pub rows-stop : (rows rest : List (ℕ × Bool)) → (firstOf rows ≡ done → ⊥) → firstOf (rows ++ rest) ≡ firstOf rows
-rows-stop [] rest e = absurd (e refl)
-rows-stop ((n, true) ∷ rows) rest e = refl
-rows-stop ((n, false) ∷ rows) rest e = rows-stop rows rest e
-
--- a number that is not outside its limits, and one within them
-pub within : (low high n : ℕ) → outside low high n ≡ false → (low ≤ n) × (n ≤ high)
-within low high n e = (ltb-false n low (neither (ltb n low) (ltb high n) e .0), ltb-false high n (neither (ltb n low) (ltb high n) e .1))
-  where
-    neither : (a b : Bool) → pick a true b ≡ false → (a ≡ false) × (b ≡ false)
-    neither true b e = absurd (true≢false e)
-    neither false b e = (refl, e)
-
-pub outside-none : (low high n : ℕ) → low ≤ n → n ≤ high → outside low high n ≡ false
-outside-none low high n l h = rw (le-ltb n low l, le-ltb high n h)
+-- both of two tests hold
+pub both : (a b : Bool) → a && b ≡ true → (a ≡ true) × (b ≡ true)
+both true b e = (refl, e)
+both false b e = absurd (false≢true e)
 
 -- zeros are zeros
 pub zeros-all : (n : ℕ) → zeros (replicate n 0) ≡ true
@@ -75,34 +43,34 @@ begins-front (x ∷ front) (y ∷ key) rest e =
 
 -- a record of keys with the lengths of their strength, a session key that begins as reduce leaves it, and a count of 12 bits
 pub well : (s : Strength) (start session : List ℕ) (count : ℕ) → length start ≡ keyLength s → length session ≡ keyLength s
-    → take (length (headOf s)) session ≡ headOf s → count < 4096 → wellFormed (linkOf s start session count) ≡ true
+    → take (length (headOf s)) session ≡ headOf s → count < counts → wellFormed (linkOf s start session count) ≡ true
 unfolding wellFormed
 well s start session count hs hk head h =
     let b : begins (headOf s) (placed session) ≡ true = unfold placed in begins-front (headOf s) session (replicate (16 - length session) 0) head in
-    rw (lt-ltb count 4096 h, places-zero s start hs, places-zero s session hk, b)
+    rw (lt-ltb count counts h, places-zero s start hs, places-zero s session hk, b)
 
--- the length of a sealed packet, and what its front says
-pub sealed-length : (session : List ℕ) (count : ℕ) (plain : List ℕ) → length (sealedPacket session count plain) ≡ 4 + length plain
+-- the length of a sealed packet, and what its header says
+pub sealed-length : (session : List ℕ) (count : ℕ) (plain : List ℕ) → length (sealedPacket session count plain) ≡ front + length plain
 unfolding sealedPacket
 sealed-length session count plain = omega (arith, run-length (keySchedule session) plain)
 
-pub sealed-header : (session : List ℕ) (count : ℕ) (plain : List ℕ) → count < 4096 → pairAt 2 (sealedPacket session count plain) ≡ bitA + bitD + count
+pub sealed-header : (session : List ℕ) (count : ℕ) (plain : List ℕ) → count < counts → headerIn (sealedPacket session count plain) ≡ bitA + bitD + count
 unfolding sealedPacket
 sealed-header session count plain h = omega arith
 
-pub sealed-count : (session : List ℕ) (count : ℕ) (plain : List ℕ) → count < 4096 → countIn (sealedPacket session count plain) ≡ count
-sealed-count session count plain h = rw (sealed-header session count plain h) (omega arith)
+pub header-count : (count : ℕ) → count < counts → countOf (bitA + bitD + count) ≡ count
+header-count count h = omega arith
 
-pub sealed-A : (session : List ℕ) (count : ℕ) (plain : List ℕ) → count < 4096 → lacks bitA (sealedPacket session count plain) ≡ false
-sealed-A session count plain h =
+pub header-A : (count : ℕ) → count < counts → lacks bitA (bitA + bitD + count) ≡ false
+header-A count h =
     let one : (bitA + bitD + count) / bitA % 2 ≡ 1 = omega arith in
-    rw (sealed-header session count plain h, one)
+    rw one
 
-pub sealed-D : (session : List ℕ) (count : ℕ) (plain : List ℕ) → count < 4096 → lacks bitD (sealedPacket session count plain) ≡ false
-sealed-D session count plain h =
+pub header-D : (count : ℕ) → count < counts → lacks bitD (bitA + bitD + count) ≡ false
+header-D count h =
     let one : (bitA + bitD + count) / bitD % 2 ≡ 1 = omega arith in
-    rw (sealed-header session count plain h, one)
+    rw one
 
 -- the distance from the count that the record holds when `next` packets are sealed to the count of packet q
-pub distance-is : (next q : ℕ) → next ≤ q → q - next ≤ 4094 → distance ((next + 4095) % 4096) (q % 4096) ≡ suc (q - next)
+pub distance-is : (next q : ℕ) → next ≤ q → q - next < farthest → distance ((next + newCount) % counts) (q % counts) ≡ suc (q - next)
 distance-is next q low near = omega arith

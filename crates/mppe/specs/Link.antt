@@ -1,12 +1,12 @@
 -- The link record, and what new link, seal and open give in stateless mode (01, "Keys" and "Packets and counts"; RFC 3078, 3 and 7).
 -- A record is the code's own struct. `limit` is the longest plain packet.
-use mathlib.Core.Bool.{Bool, true, false, not}
+use mathlib.Core.Bool.{Bool, true, false, not, _&&_}
 use mathlib.Core.List.{List, [], _∷_, _++_}
 use Prim.Native.Nat.{ℕ, _+_, _*_, _-_, _/_, _%_}
 use lib.Dec.{eqb, ltb}
 use lib.ListN.{length, take, drop, getD, replicate}
 use Rattle.answer.specs.Answer.{done, shape, room, size, protocol, flags, repeat, notRecord, pick, outside, wrong, firstOf, onDone}
-use Rattle.octets.specs.Octets.{bigEndian, written}
+use Rattle.octets.specs.Octets.{bigEndian, pairAt, written}
 use Rattle.mppe_keys.specs.declared.Strength.{Strength}
 use Rattle.mppe_keys.specs.Keys.{keyLength, headOf, initialKey, rc4, keyChange, changes, placed}
 use Rattle.mppe.specs.declared.Link.{Link}
@@ -28,30 +28,25 @@ front = 4
 abbrev pub counts : ℕ
 counts = 4096
 
--- both of two tests
-infixr 6 _and_
-abbrev pub _and_ : Bool → Bool → Bool
-a and b = pick a b false
-
 -- all octets are 0
 unfoldable pub zeros : List ℕ → Bool
 zeros [] = true
-zeros (x ∷ xs) = eqb x 0 and zeros xs
+zeros (x ∷ xs) = eqb x 0 && zeros xs
 
 -- a list begins with another
 unfoldable pub begins : List ℕ → List ℕ → Bool
 begins [] l = true
 begins (h ∷ hs) [] = false
-begins (h ∷ hs) (x ∷ xs) = eqb x h and begins hs xs
+begins (h ∷ hs) (x ∷ xs) = eqb x h && begins hs xs
 
 -- "Well formed: count at most 4,095; at 40 and 56 bits the last eight places of both keys are 0; the session key begins as
 -- reduce leaves it." At 128 bits no place is left behind the key, and reduce leaves every beginning.
 unfoldable pub wellFormed : Link → Bool
 wellFormed l =
     ltb (l .count) counts
-    and zeros (drop (keyLength (l .strength)) (l .start))
-    and zeros (drop (keyLength (l .strength)) (l .session))
-    and begins (headOf (l .strength)) (l .session)
+    && zeros (drop (keyLength (l .strength)) (l .start))
+    && zeros (drop (keyLength (l .strength)) (l .session))
+    && begins (headOf (l .strength)) (l .session)
 
 -- the keys in their places
 abbrev pub startKeyIn : Link → List ℕ
@@ -72,18 +67,18 @@ renewed l session count = record { strength = l .strength; start = l .start; ses
 abbrev pub newLinkCode : Strength → List ℕ → ℕ
 newLinkCode s start = firstOf ((size, wrong (keyLength s) start) ∷ [])
 
--- "A new link has count 4,095 (house), so the first packet carries 0"; "a refused new link has the strength asked for and all else 0"
+-- "A new link has count 4,095 (house), so the first packet carries 0"
+abbrev pub newCount : ℕ
+newCount = 4095
+
+-- "a refused new link has the strength asked for and all else 0"
 unfoldable pub newLink : Strength → List ℕ → NewLink
 newLink s start =
     record {
       answer = newLinkCode s start;
-      link = onDone (newLinkCode s start) (linkOf s start (initialKey s start) 4095)
+      link = onDone (newLinkCode s start) (linkOf s start (initialKey s start) newCount)
           (record { strength = s; start = replicate 16 0; session = replicate 16 0; count = 0 });
     }
-
--- the number of two octets from a place on, highest first
-abbrev pub pairAt : ℕ → List ℕ → ℕ
-pairAt i l = getD l i 0 * 256 + getD l (i + 1) 0
 
 -- "the plain protocol number is outside 0x0021 to 0x00FA"
 abbrev pub offProtocol : List ℕ → Bool
@@ -104,17 +99,28 @@ header count = bigEndian 2 (bitA + bitD + count)
 unfoldable pub sealedPacket : List ℕ → ℕ → List ℕ → List ℕ
 sealedPacket session count plain = 0x00 ∷ 0xFD ∷ header count ++ rc4 session plain
 
--- the count that a packet carries
-abbrev pub countIn : List ℕ → ℕ
-countIn packet = pairAt 2 packet % counts
+-- the number of a packet's two header octets, and the data behind them
+abbrev pub headerIn : List ℕ → ℕ
+headerIn packet = pairAt 2 packet
 
--- a bit of its header is 0
-abbrev pub lacks : ℕ → List ℕ → Bool
-lacks bit packet = eqb (pairAt 2 packet / bit % 2) 0
+abbrev pub dataIn : List ℕ → List ℕ
+dataIn packet = drop front packet
+
+-- the count that a header carries
+abbrev pub countOf : ℕ → ℕ
+countOf h = h % counts
+
+-- a bit of a header is 0
+abbrev pub lacks : ℕ → ℕ → Bool
+lacks bit h = eqb (h / bit % 2) 0
 
 -- "distance = (arrived count - last count) mod 4,096"
 abbrev pub distance : ℕ → ℕ → ℕ
 distance last arrived = (arrived + counts - last) % counts
+
+-- "Distance 0 is 6; 1 to 4,095 means that many key changes": the farthest that is opened
+abbrev pub farthest : ℕ
+farthest = 4095
 
 -- what a call gives: its outcome, and the lent buffer after it
 pub record Result : Type 0 where
@@ -153,48 +159,49 @@ sealResult limit l plain out =
     (finished 1 (renewed l (nextKey l) (nextCount l)) (written (sealedPacket (nextKey l) (nextCount l) plain) out))
     (refusal code l out)
 
--- "1 to 4,095 means that many key changes"
-abbrev pub changesFor : Link → List ℕ → ℕ
-changesFor l packet = distance (l .count) (countIn packet)
+-- what a record makes of a header: as many key changes as the distance
+abbrev pub changesFor : Link → ℕ → ℕ
+changesFor l h = distance (l .count) (countOf h)
 
-unfoldable pub keyFor : Link → List ℕ → List ℕ
-keyFor l packet = changes (l .strength) (startKeyIn l) (changesFor l packet) (sessionKeyIn l)
+unfoldable pub keyFor : Link → ℕ → List ℕ
+keyFor l h = changes (l .strength) (startKeyIn l) (changesFor l h) (sessionKeyIn l)
 
--- "then RC4"
-unfoldable pub plainFor : Link → List ℕ → List ℕ
-plainFor l packet = rc4 (keyFor l packet) (drop front packet)
+-- "then RC4, then last count = arrived"
+unfoldable pub plainFor : Link → ℕ → List ℕ → List ℕ
+plainFor l h text = rc4 (keyFor l h) text
 
--- the rows of open's table that the packet alone decides: 1, 5, with two ways to have a wrong shape and two to lack a flag
-abbrev pub packetRows : ℕ → List ℕ → List (ℕ × Bool)
-packetRows limit packet =
-    (shape, outside (front + shortestPlain) (front + limit) (length packet))
+abbrev pub linkAfter : Link → ℕ → Link
+linkAfter l h = renewed l (keyFor l h) (countOf h)
+
+-- the rows of open's table: those that the record and the packet's shape decide, 7, 1, with two ways to have a wrong shape ..
+abbrev pub frontRows : ℕ → Link → List ℕ → List (ℕ × Bool)
+frontRows limit l packet =
+    (notRecord, not (wellFormed l))
+    ∷ (shape, outside (front + shortestPlain) (front + limit) (length packet))
     ∷ (shape, not (eqb (pairAt 0 packet) 0x00FD))
-    ∷ (flags, lacks bitA packet)
-    ∷ (flags, lacks bitD packet)
     ∷ []
 
-unfoldable pub packetCode : ℕ → List ℕ → ℕ
-packetCode limit packet = firstOf (packetRows limit packet)
+-- .. those that the record and the header decide, 5, 6 ..
+abbrev pub headerRows : Link → ℕ → List (ℕ × Bool)
+headerRows l h = (flags, lacks bitA h) ∷ (flags, lacks bitD h) ∷ (repeat, eqb (changesFor l h) 0) ∷ []
 
--- those that the record and the length of the lent buffer decide with it: 6, 2
-abbrev pub laterRows : Link → List ℕ → ℕ → List (ℕ × Bool)
-laterRows l packet lent = (repeat, eqb (changesFor l packet) 0) ∷ (room, ltb lent (length packet - front)) ∷ []
-
--- all rows but the last, for which the packet must be deciphered: 7, 1, 5, 6, 2
-abbrev pub frontRows : ℕ → Link → List ℕ → ℕ → List (ℕ × Bool)
-frontRows limit l packet lent = (notRecord, not (wellFormed l)) ∷ packetRows limit packet ++ laterRows l packet lent
-
-unfoldable pub frontCode : ℕ → Link → List ℕ → ℕ → ℕ
-frontCode limit l packet lent = firstOf (frontRows limit l packet lent)
+-- .. and those for which the data are wanted, 2, 4
+abbrev pub dataRows : Link → ℕ → List ℕ → ℕ → List (ℕ × Bool)
+dataRows l h text lent = (room, ltb lent (length text)) ∷ (protocol, offProtocol (plainFor l h text)) ∷ []
 
 -- "Open: 7, 1, 5, 6, 2, 4"
-unfoldable pub openCode : ℕ → Link → List ℕ → ℕ → ℕ
-openCode limit l packet lent = firstOf (frontRows limit l packet lent ++ ((protocol, offProtocol (plainFor l packet)) ∷ []))
+abbrev pub openRows : ℕ → Link → List ℕ → ℕ → List (ℕ × Bool)
+openRows limit l packet lent =
+    frontRows limit l packet ++ headerRows l (headerIn packet) ++ dataRows l (headerIn packet) (dataIn packet) lent
 
--- what open gives; "then last count = arrived"
+unfoldable pub openCode : ℕ → Link → List ℕ → ℕ → ℕ
+openCode limit l packet lent = firstOf (openRows limit l packet lent)
+
+-- what open gives for data behind a header, by its number
+abbrev pub openedBy : ℕ → Link → ℕ → List ℕ → List ℕ → Result
+openedBy code l h text out =
+    onDone code (finished (changesFor l h) (linkAfter l h) (written (plainFor l h text) out)) (refusal code l out)
+
+-- what open gives
 unfoldable pub openResult : ℕ → Link → List ℕ → List ℕ → Result
-openResult limit l packet out =
-    let code : ℕ = openCode limit l packet (length out) in
-    onDone code
-    (finished (changesFor l packet) (renewed l (keyFor l packet) (countIn packet)) (written (plainFor l packet) out))
-    (refusal code l out)
+openResult limit l packet out = openedBy (openCode limit l packet (length out)) l (headerIn packet) (dataIn packet) out

@@ -1,13 +1,15 @@
 // MPPE's link in stateless mode: the record, sealing and opening (01, "Keys" and "Packets and counts"; RFC 3078, sections 3 and 7).
 ghost use mathlib.Core.Path.{_≡_};
+ghost use mathlib.Core.Bool.{true};
 ghost use mathlib.Core.List.{[], _∷_};
 ghost use Prim.Native.Nat.{_+_, _*_, _%_, _≤_, _<_};
-ghost use lib.ListN.{length, take, drop};
+ghost use lib.ListN.{length, drop};
 ghost use Rattle.answer.specs.Answer.{outside};
 ghost use Rattle.octets.specs.Octets.{written};
 ghost use Rattle.rc4.specs.Cipher.{keySchedule, run};
-ghost use Rattle.mppe_keys.specs.Keys.{keyLength, headOf, changes as changesOf};
-ghost use Rattle.mppe.specs.Link.{longestPlain, zeros, begins, wellFormed, newLink, startKeyIn, sessionKeyIn, renewed, offProtocol, header, distance as distanceOf, refusal, sealCode, sealResult, packetCode, frontCode, openResult};
+ghost use Rattle.mppe_keys.specs.Keys.{headOf, changes as changesOf};
+ghost use Rattle.mppe.specs.Link.{shortestPlain, longestPlain, front, counts, zeros, begins, wellFormed, newLink, startKeyIn, sessionKeyIn, renewed, offProtocol, header, distance as distanceOf, refusal, sealCode, sealResult, openResult};
+ghost use Rattle.mppe.specs.Inner.{frontCode, headerCode, dataResult};
 use mppe_keys::Strength;
 use mppe_keys::key_length;
 use octets::pair;
@@ -98,9 +100,7 @@ impl Link {
         let count = next_count(self.count);
         let next = moved(self, count, 1);
         put_front(count, out);
-        let strength = next.strength;
-        let session = next.session;
-        let cipher = cipher_of(strength, session);
+        let cipher = cipher_of(next);
         cipher.run(plain, &mut out[FRONT..]);
         Outcome {
             answer: answer::DONE,
@@ -109,25 +109,37 @@ impl Link {
         }
     }
 
-    // Opens a sealed packet into the front of a lent buffer, once its protocol number is found to be one that is carried.
+    // Opens a sealed packet into the front of a lent buffer.
     pub fn open(self, packet: &[u8], out: &mut [u8]) -> Outcome
         ensures { λ r. ⌜ (r ≡ openResult longestPlain self (now (packet .entry)) (now (out .entry)) .outcome)
             × (now (out .exit) ≡ openResult longestPlain self (now (packet .entry)) (now (out .entry)) .buffer) ⌝ }
     {
-        let code = front_code(self, packet, out.len());
+        let code = front_code(self, packet);
         if code != answer::DONE {
             return refused(code, self);
         }
-        let count = pair(packet[2], packet[3]) % COUNTS;
+        let header = pair(packet[2], packet[3]);
+        self.open_data(header, &packet[FRONT..], out)
+    }
+
+    // Opens the data behind a header, once their protocol number is found to be one that is carried.
+    fn open_data(self, header: u16, text: &[u8], out: &mut [u8]) -> Outcome
+        requires { ⌜ (wellFormed self ≡ true) × (shortestPlain ≤ length (now text)) × (length (now text) ≤ longestPlain) ⌝ }
+        ensures { λ r. ⌜ (r ≡ dataResult self header (now (text .entry)) (now (out .entry)) .outcome)
+            × (now (out .exit) ≡ dataResult self header (now (text .entry)) (now (out .entry)) .buffer) ⌝ }
+    {
+        let count = header % COUNTS;
         let changes = distance(self.count, count);
+        let code = header_code(header, changes, text.len(), out.len());
+        if code != answer::DONE {
+            return refused(code, self);
+        }
         let next = moved(self, count, changes);
-        let strength = next.strength;
-        let session = next.session;
-        let cipher = cipher_of(strength, session);
-        if runs_off_protocol(cipher, &packet[FRONT..]) {
+        let cipher = cipher_of(next);
+        if runs_off_protocol(cipher, text) {
             return refused(answer::PROTOCOL, self);
         }
-        cipher.run(&packet[FRONT..], out);
+        cipher.run(text, out);
         Outcome {
             answer: answer::DONE,
             changes,
@@ -169,30 +181,13 @@ fn seal_code(link: Link, plain: &[u8], room: usize) -> u8
     answer::DONE
 }
 
-// The number that open answers by all rows but the last, for which the packet must be deciphered.
-fn front_code(link: Link, packet: &[u8], room: usize) -> u8
-    ensures { λ r. ⌜ r ≡ frontCode longestPlain link (now (packet .entry)) room ⌝ }
+// The number that open answers by the rows that the record and the packet's shape decide.
+fn front_code(link: Link, packet: &[u8]) -> u8
+    ensures { λ r. ⌜ r ≡ frontCode longestPlain link (now (packet .entry)) ⌝ }
 {
     if !well_formed(link) {
         return answer::RECORD;
     }
-    let code = packet_code(packet);
-    if code != answer::DONE {
-        return code;
-    }
-    if distance(link.count, pair(packet[2], packet[3]) % COUNTS) == 0 {
-        return answer::REPEAT;
-    }
-    if room < packet.len() - FRONT {
-        return answer::ROOM;
-    }
-    answer::DONE
-}
-
-// The number that open answers by the rows that the packet alone decides.
-fn packet_code(packet: &[u8]) -> u8
-    ensures { λ r. ⌜ r ≡ packetCode longestPlain (now (packet .entry)) ⌝ }
-{
     if packet.len() < FRONT + SHORTEST_PLAIN {
         return answer::SHAPE;
     }
@@ -202,12 +197,24 @@ fn packet_code(packet: &[u8]) -> u8
     if pair(packet[0], packet[1]) != SEALED {
         return answer::SHAPE;
     }
-    let header = pair(packet[2], packet[3]);
+    answer::DONE
+}
+
+// The number by the rows that the header, its distance and two lengths decide.
+fn header_code(header: u16, distance: u16, length: usize, room: usize) -> u8
+    ensures { λ r. ⌜ r ≡ headerCode header distance length room ⌝ }
+{
     if header / BIT_A % 2 == 0 {
         return answer::FLAGS;
     }
     if header / BIT_D % 2 == 0 {
         return answer::FLAGS;
+    }
+    if distance == 0 {
+        return answer::REPEAT;
+    }
+    if room < length {
+        return answer::ROOM;
     }
     answer::DONE
 }
@@ -288,16 +295,18 @@ fn runs_off_protocol(cipher: Rc4, text: &[u8]) -> bool
 
 // The count of the packet after one.
 fn next_count(count: u16) -> u16
-    ensures { λ r. ⌜ r ≡ (count + 1) % 4096 ⌝ }
+    requires { ⌜ count < counts ⌝ }
+    ensures { λ r. ⌜ r ≡ (count + 1) % counts ⌝ }
 {
-    (count % COUNTS + 1) % COUNTS
+    (count + 1) % COUNTS
 }
 
 // How far a count is from the last one.
 fn distance(last: u16, arrived: u16) -> u16
-    ensures { λ r. ⌜ r ≡ distanceOf (last % 4096) (arrived % 4096) ⌝ }
+    requires { ⌜ (last < counts) × (arrived < counts) ⌝ }
+    ensures { λ r. ⌜ r ≡ distanceOf last arrived ⌝ }
 {
-    (arrived % COUNTS + COUNTS - last % COUNTS) % COUNTS
+    (arrived + COUNTS - last) % COUNTS
 }
 
 // A record with its session key changed so many times, and another count.
@@ -316,10 +325,12 @@ fn moved(link: Link, count: u16, changes: u16) -> Link
     }
 }
 
-// RC4 freshly keyed with a session key in its places.
-fn cipher_of(strength: Strength, session: [u8; 16]) -> Rc4
-    ensures { λ r. ⌜ r ≡ keySchedule (take (keyLength strength) session) ⌝ }
+// RC4 freshly keyed with a record's session key.
+fn cipher_of(link: Link) -> Rc4
+    ensures { λ r. ⌜ r ≡ keySchedule (sessionKeyIn link) ⌝ }
 {
+    let strength = link.strength;
+    let session = link.session;
     let n = key_length(strength);
     let keyed = Rc4::keyed(&session[..n]);
     keyed.state
@@ -327,7 +338,7 @@ fn cipher_of(strength: Strength, session: [u8; 16]) -> Rc4
 
 // Writes what stands before a sealed packet's data.
 fn put_front(count: u16, out: &mut [u8])
-    requires { ⌜ (count < 4096) × (4 ≤ length (now out)) ⌝ }
+    requires { ⌜ (count < counts) × (front ≤ length (now out)) ⌝ }
     ensures { λ _. ⌜ now (out .exit) ≡ written (0x00 ∷ 0xFD ∷ header count) (now (out .entry)) ⌝ }
 {
     let header = BIT_A + BIT_D + count;

@@ -26,6 +26,19 @@ abbrev pub wordsOf : Order → List ℕ → List ℕ
 wordsOf order [] = []
 wordsOf order (w ∷ ws) = octetsOf order 4 w ++ wordsOf order ws
 
+-- the number of octets, highest first; `joined` has those before them as a number already
+abbrev pub joined : ℕ → List ℕ → ℕ
+joined n [] = n
+joined n (x ∷ xs) = joined (n * 256 + x) xs
+
+abbrev pub fromBigEndian : List ℕ → ℕ
+fromBigEndian [] = 0
+fromBigEndian (x ∷ xs) = joined x xs
+
+-- the number of the two octets from a place on, highest first
+abbrev pub pairAt : ℕ → List ℕ → ℕ
+pairAt i l = fromBigEndian (getD l i 0 ∷ getD l (i + 1) 0 ∷ [])
+
 -- the word of 32 bits whose octets are those at i to i + 3, highest first
 abbrev pub wordBE : List ℕ → ℕ → ℕ
 wordBE b i = getD b i 0 * 2 ^ 24 + getD b (i + 1) 0 * 2 ^ 16 + getD b (i + 2) 0 * 2 ^ 8 + getD b (i + 3) 0

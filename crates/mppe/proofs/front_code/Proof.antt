@@ -1,44 +1,65 @@
-use native.Mathlib.Omega.{arith}
-use Rattle.mppe.proofs.Laws.{fails, holds, near-is, packet-bounds, front-record, front-packet, front-repeat, front-room, front-done}
 use borrow.Author.Needs.{needs}
+use mathlib.Core.Path.{refl, sym, ap, _∙_}
+use mathlib.Core.Bool.{not}
+use borrow.Author.Tests.{eq-eqb, ne-eqb}
+use Rattle.answer.specs.Laws.{stops, passes, outside-low, outside-high, outside-none}
+use Rattle.mppe.specs.Inner.{frontCode}
+use Rattle.mppe.proofs.Laws.{opposite}
 use Rattle.mppe.proofs.front_code.Statement.{statement}
 use Rattle.mppe.proofs.front_code.Tie as tie
+use Rattle.mppe.proofs.front_code.Reads as reads
+use Rattle.mppe.proofs.front_code.Lts as lts
+use Rattle.mppe.proofs.well_formed.Reads as well-formed-reads
+use Rattle.octets.proofs.pair.Reads as pair-reads
 
 well-formed-requires : tie.Need-well-formed-requires
 well-formed-requires c κs = search needs
 
 returns : tie.Need-returns
-returns c = front-record _ (c .before .before .before .args .link) (c .before .before .before .args .packet .now) (c .before .before .before .args .room) (fails _ (c .before .well-formed .ensures) (c .if1 .taken))
+unfolding frontCode
+returns c = stops _ _ _ (opposite (c .before .well-formed .ensures) (c .if1 .taken))
 
-packet-code-requires : tie.Need-packet-code-requires
-packet-code-requires c κs = search needs
+add-if2 : tie.Need-add-if2
+add-if2 c = search needs
 
 returns-2 : tie.Need-returns-2
-returns-2 c = front-packet _ (c .before .before .before .before .before .args .link) (c .before .before .before .before .before .args .packet .now) (c .before .before .before .before .before .args .room) (holds _ (c .before .before .before .well-formed .ensures) (c .before .before .if1 .left)) (c .before .packet-code .ensures) (c .if2 .taken)
+unfolding frontCode
+returns-2 c = let formed = c .before in
+    passes _ _ _ (opposite (formed .before .well-formed .ensures) (formed .if1 .left)) (stops _ _ _ (outside-low _ _ _ (c .if2 .taken)))
+
+add-if3 : tie.Need-add-if3
+add-if3 c = search needs
+
+returns-3 : tie.Need-returns-3
+unfolding frontCode
+returns-3 c = let long = c .before in
+    let formed = long .before in
+    passes _ _ _ (opposite (formed .before .well-formed .ensures) (formed .if1 .left)) (stops _ _ _ (outside-high _ _ _ (long .if2 .left) (c .if3 .taken)))
 
 shared-slice-read-pair : tie.Need-shared-slice-read-pair
-shared-slice-read-pair c = let e = packet-bounds _ (c .before .before .before .before .before .before .args .packet .now) (c .before .before .packet-code .ensures) (c .before .if2 .left) in omega (arith, e .0)
+shared-slice-read-pair c = search needs
 
 shared-slice-read-pair-2 : tie.Need-shared-slice-read-pair-2
-shared-slice-read-pair-2 c = let e = packet-bounds _ (c .before .before .before .before .before .before .before .args .packet .now) (c .before .before .before .packet-code .ensures) (c .before .before .if2 .left) in omega (arith, e .0)
+shared-slice-read-pair-2 c = search needs
 
 pair-requires : tie.Need-pair-requires
 pair-requires c κs = search needs
 
-distance-requires : tie.Need-distance-requires
-distance-requires c κs = search needs
-
-returns-3 : tie.Need-returns-3
-returns-3 c = front-repeat _ (c .before .before .before .before .before .before .before .before .before .before .args .link) (c .before .before .before .before .before .before .before .before .before .before .args .packet .now) (c .before .before .before .before .before .before .before .before .before .before .args .room) (holds _ (c .before .before .before .before .before .before .before .before .well-formed .ensures) (c .before .before .before .before .before .before .before .if1 .left)) (c .before .before .before .before .before .before .packet-code .ensures) (c .before .before .before .before .before .if2 .left) (near-is (c .before .before .before .before .before .before .before .before .before .before .args .link) (c .before .before .before .before .before .before .before .before .before .before .args .packet .now) (holds _ (c .before .before .before .before .before .before .before .before .well-formed .ensures) (c .before .before .before .before .before .before .before .if1 .left)) (c .before .before .pair .ensures) (c .before .distance .ensures)) (c .if3 .taken)
-
-sub-if4 : tie.Need-sub-if4
-sub-if4 c = let e = packet-bounds _ (c .before .before .before .before .before .before .before .before .before .before .args .packet .now) (c .before .before .before .before .before .before .packet-code .ensures) (c .before .before .before .before .before .if2 .left) in omega (arith, e .0)
-
 returns-4 : tie.Need-returns-4
-returns-4 c = front-room _ (c .before .before .before .before .before .before .before .before .before .before .before .args .link) (c .before .before .before .before .before .before .before .before .before .before .before .args .packet .now) (c .before .before .before .before .before .before .before .before .before .before .before .args .room) (holds _ (c .before .before .before .before .before .before .before .before .before .well-formed .ensures) (c .before .before .before .before .before .before .before .before .if1 .left)) (c .before .before .before .before .before .before .before .packet-code .ensures) (c .before .before .before .before .before .before .if2 .left) (near-is (c .before .before .before .before .before .before .before .before .before .before .before .args .link) (c .before .before .before .before .before .before .before .before .before .before .before .args .packet .now) (holds _ (c .before .before .before .before .before .before .before .before .before .well-formed .ensures) (c .before .before .before .before .before .before .before .before .if1 .left)) (c .before .before .before .pair .ensures) (c .before .before .distance .ensures)) (c .before .if3 .left) (c .if4 .taken)
+unfolding frontCode
+returns-4 c = let short = c .before .before .before .before in
+    let long = short .before in
+    let formed = long .before in
+    passes _ _ _ (opposite (formed .before .well-formed .ensures) (formed .if1 .left))
+    (passes _ _ _ (outside-none _ _ _ (long .if2 .left) (short .if3 .left)) (stops _ _ _ (ap not (ne-eqb _ _ λ z. c .if4 .taken (c .before .pair .ensures ∙ z)))))
 
 returns-5 : tie.Need-returns-5
-returns-5 c = front-done _ (c .before .before .before .before .before .before .before .before .before .before .before .args .link) (c .before .before .before .before .before .before .before .before .before .before .before .args .packet .now) (c .before .before .before .before .before .before .before .before .before .before .before .args .room) (holds _ (c .before .before .before .before .before .before .before .before .before .well-formed .ensures) (c .before .before .before .before .before .before .before .before .if1 .left)) (c .before .before .before .before .before .before .before .packet-code .ensures) (c .before .before .before .before .before .before .if2 .left) (near-is (c .before .before .before .before .before .before .before .before .before .before .before .args .link) (c .before .before .before .before .before .before .before .before .before .before .before .args .packet .now) (holds _ (c .before .before .before .before .before .before .before .before .before .well-formed .ensures) (c .before .before .before .before .before .before .before .before .if1 .left)) (c .before .before .before .pair .ensures) (c .before .before .distance .ensures)) (c .before .if3 .left) (c .if4 .left)
+unfolding frontCode
+returns-5 c = let short = c .before .before .before .before in
+    let long = short .before in
+    let formed = long .before in
+    passes _ _ _ (opposite (formed .before .well-formed .ensures) (formed .if1 .left))
+    (passes _ _ _ (outside-none _ _ _ (long .if2 .left) (short .if3 .left)) (passes _ _ _ (ap not (eq-eqb _ _ (sym (c .before .pair .ensures) ∙ c .if4 .left))) refl))
 
 pub front-code-spec : {M : Type 1} → statement M
 front-code-spec =
@@ -46,13 +67,12 @@ front-code-spec =
     (tie.spec
     well-formed-requires
     returns
-    packet-code-requires
+    add-if2
     returns-2
+    add-if3
+    returns-3
     shared-slice-read-pair
     shared-slice-read-pair-2
     pair-requires
-    distance-requires
-    returns-3
-    sub-if4
     returns-4
     returns-5)

@@ -1,19 +1,33 @@
-use Rattle.mppe.proofs.Laws.{fails, holds, seal-record, seal-short, seal-long, seal-protocol, seal-room, seal-done}
 use borrow.Author.Needs.{needs}
+use mathlib.Core.Path.{refl, sym, _∙_}
+use borrow.Author.Tests.{lt-ltb, le-ltb}
+use Rattle.answer.specs.Laws.{stops, passes, outside-low, outside-high, outside-none}
+use Rattle.mppe.specs.Link.{sealCode}
+use Rattle.mppe.proofs.Laws.{opposite}
 use Rattle.mppe.proofs.seal_code.Statement.{statement}
 use Rattle.mppe.proofs.seal_code.Tie as tie
+use Rattle.mppe.proofs.seal_code.Reads as reads
+use Rattle.mppe.proofs.seal_code.Lts as lts
+use Rattle.mppe.proofs.off_protocol.Reads as off-protocol-reads
+use Rattle.mppe.proofs.well_formed.Reads as well-formed-reads
 
 well-formed-requires : tie.Need-well-formed-requires
 well-formed-requires c κs = search needs
 
 returns : tie.Need-returns
-returns c = seal-record _ (c .before .before .before .args .link) (c .before .before .before .args .plain .now) (c .before .before .before .args .room) (fails _ (c .before .well-formed .ensures) (c .if1 .taken))
+unfolding sealCode
+returns c = stops _ _ _ (opposite (c .before .well-formed .ensures) (c .if1 .taken))
 
 returns-2 : tie.Need-returns-2
-returns-2 c = seal-short _ (c .before .before .before .before .args .link) (c .before .before .before .before .args .plain .now) (c .before .before .before .before .args .room) (holds _ (c .before .before .well-formed .ensures) (c .before .if1 .left)) (c .if2 .taken)
+unfolding sealCode
+returns-2 c = let formed = c .before in
+    passes _ _ _ (opposite (formed .before .well-formed .ensures) (formed .if1 .left)) (stops _ _ _ (outside-low _ _ _ (c .if2 .taken)))
 
 returns-3 : tie.Need-returns-3
-returns-3 c = seal-long _ (c .before .before .before .before .before .args .link) (c .before .before .before .before .before .args .plain .now) (c .before .before .before .before .before .args .room) (holds _ (c .before .before .before .well-formed .ensures) (c .before .before .if1 .left)) (c .before .if2 .left) (c .if3 .taken)
+unfolding sealCode
+returns-3 c = let long = c .before in
+    let formed = long .before in
+    passes _ _ _ (opposite (formed .before .well-formed .ensures) (formed .if1 .left)) (stops _ _ _ (outside-high _ _ _ (long .if2 .left) (c .if3 .taken)))
 
 shared-slice-read-off-protocol : tie.Need-shared-slice-read-off-protocol
 shared-slice-read-off-protocol c = search needs
@@ -25,16 +39,35 @@ off-protocol-requires : tie.Need-off-protocol-requires
 off-protocol-requires c κs = search needs
 
 returns-4 : tie.Need-returns-4
-returns-4 c = seal-protocol _ (c .before .before .before .before .before .before .before .before .before .args .link) (c .before .before .before .before .before .before .before .before .before .args .plain .now) (c .before .before .before .before .before .before .before .before .before .args .room) (holds _ (c .before .before .before .before .before .before .before .well-formed .ensures) (c .before .before .before .before .before .before .if1 .left)) (c .before .before .before .before .before .if2 .left) (c .before .before .before .before .if3 .left) (c .before .off-protocol .ensures) (c .if4 .taken)
+unfolding sealCode
+returns-4 c = let short = c .before .before .before .before in
+    let long = short .before in
+    let formed = long .before in
+    passes _ _ _ (opposite (formed .before .well-formed .ensures) (formed .if1 .left))
+    (passes _ _ _ (outside-none _ _ _ (long .if2 .left) (short .if3 .left)) (stops _ _ _ (sym (c .before .off-protocol .ensures) ∙ c .if4 .taken)))
 
 add-if5 : tie.Need-add-if5
 add-if5 c = search needs
 
 returns-5 : tie.Need-returns-5
-returns-5 c = seal-room _ (c .before .before .before .before .before .before .before .before .before .before .args .link) (c .before .before .before .before .before .before .before .before .before .before .args .plain .now) (c .before .before .before .before .before .before .before .before .before .before .args .room) (holds _ (c .before .before .before .before .before .before .before .before .well-formed .ensures) (c .before .before .before .before .before .before .before .if1 .left)) (c .before .before .before .before .before .before .if2 .left) (c .before .before .before .before .before .if3 .left) (c .before .before .off-protocol .ensures) (c .before .if4 .left) (c .if5 .taken)
+unfolding sealCode
+returns-5 c = let carried = c .before in
+    let short = carried .before .before .before .before in
+    let long = short .before in
+    let formed = long .before in
+    passes _ _ _ (opposite (formed .before .well-formed .ensures) (formed .if1 .left))
+    (passes _ _ _ (outside-none _ _ _ (long .if2 .left) (short .if3 .left))
+    (passes _ _ _ (sym (carried .before .off-protocol .ensures) ∙ carried .if4 .left) (stops _ _ _ (lt-ltb _ _ (c .if5 .taken)))))
 
 returns-6 : tie.Need-returns-6
-returns-6 c = seal-done _ (c .before .before .before .before .before .before .before .before .before .before .args .link) (c .before .before .before .before .before .before .before .before .before .before .args .plain .now) (c .before .before .before .before .before .before .before .before .before .before .args .room) (holds _ (c .before .before .before .before .before .before .before .before .well-formed .ensures) (c .before .before .before .before .before .before .before .if1 .left)) (c .before .before .before .before .before .before .if2 .left) (c .before .before .before .before .before .if3 .left) (c .before .before .off-protocol .ensures) (c .before .if4 .left) (c .if5 .left)
+unfolding sealCode
+returns-6 c = let carried = c .before in
+    let short = carried .before .before .before .before in
+    let long = short .before in
+    let formed = long .before in
+    passes _ _ _ (opposite (formed .before .well-formed .ensures) (formed .if1 .left))
+    (passes _ _ _ (outside-none _ _ _ (long .if2 .left) (short .if3 .left))
+    (passes _ _ _ (sym (carried .before .off-protocol .ensures) ∙ carried .if4 .left) (passes _ _ _ (le-ltb _ _ (c .if5 .left)) refl)))
 
 pub seal-code-spec : {M : Type 1} → statement M
 seal-code-spec =
