@@ -1,5 +1,6 @@
--- A run that meets demand 3's schedule, for every strength and start key: of three packets the line loses the first, the second is
--- handed to open twice, and noise comes before the third. So the claim is not empty; and what it says of this run.
+-- A run that meets demand 3's schedule, for every strength and start key: noise comes before the first arrival, of four packets the line
+-- loses the first and the last, the second is handed to open twice, and noise comes before the third. So the claim is not empty; and
+-- what it says of this run.
 use mathlib.Core.Path.{_≡_, refl, ap, subst⁻¹, _∙_}
 use mathlib.Core.List.{List, [], _∷_, _++_, map}
 use Prim.Native.Nat.{ℕ, _≤_}
@@ -9,9 +10,10 @@ use lib.ListN.{length, replicate}
 use Rattle.answer.specs.Answer.{done, shape, size, repeat}
 use Rattle.mppe_keys.specs.declared.Strength.{Strength}
 use Rattle.mppe_keys.specs.Keys.{keyLength, changes}
+use Rattle.mppe.specs.declared.Link.{Link}
 use Rattle.mppe.specs.Link.{longestPlain, newLink, Result, finished, refusal, openCode}
 use Rattle.mppe.specs.Run.{mostLost, SealCall, OpenCall, arrival, other, Packet, sealRun, openRun, first, beginning, saidCode, packetOf, onward, packets, said, numbered, Meets, due, Demand3}
-use Rattle.mppe.specs.Demand3.{keyAt, historyAt, packetAt, start-length, well-at, packet-is, repeat-code, demand-3-base}
+use Rattle.mppe.specs.Demand3.{keyAt, recordAt, historyAt, packetAt, start-length, first-is, well-at, packet-is, repeat-code, demand-3-base}
 
 abbrev plain₀ : List ℕ
 plain₀ = 0x00 ∷ 0x21 ∷ 0x45 ∷ []
@@ -21,6 +23,13 @@ plain₁ = 0x00 ∷ 0x21 ∷ 0x46 ∷ 0x47 ∷ []
 
 abbrev plain₂ : List ℕ
 plain₂ = 0x00 ∷ 0x57 ∷ []
+
+abbrev plain₃ : List ℕ
+plain₃ = 0x00 ∷ 0x57 ∷ 0x60 ∷ []
+
+-- octets that are no packet
+abbrev noise : List ℕ
+noise = 0x00 ∷ 0xFD ∷ []
 
 -- the number that a call answers
 abbrev answered : Result → ℕ
@@ -33,6 +42,7 @@ seals =
     ∷ record { plain = 0x00 ∷ []; room = replicate 7 0 }
     ∷ record { plain = plain₁; room = replicate 9 0 }
     ∷ record { plain = plain₂; room = replicate 6 0 }
+    ∷ record { plain = plain₃; room = replicate 7 0 }
     ∷ []
 
 module _ (s : Strength) (start : List ℕ) where
@@ -41,62 +51,69 @@ module _ (s : Strength) (start : List ℕ) where
 
   abbrev pub opens : List Packet → List OpenCall
   opens ps =
-      arrival 1 (numbered s start ps 1 .octets) (replicate 5 0)
+      other noise []
+      ∷ arrival 1 (numbered s start ps 1 .octets) (replicate 5 0)
       ∷ other (numbered s start ps 1 .octets) (replicate 4 0)
-      ∷ other (0x00 ∷ 0xFD ∷ []) []
+      ∷ other noise []
       ∷ arrival 2 (numbered s start ps 2 .octets) (replicate 2 0)
       ∷ []
 
-  -- what open gives: two key changes for the second packet, 6, 1, and one key change for the third
+  -- what open gives: 1, two key changes for the second packet, 6, 1, and one key change for the third
   abbrev pub opened : List Packet → List Result
   opened ps =
-      finished 2 (numbered s start ps 1 .link) (plain₁ ++ (0 ∷ []))
+      refusal shape (first s start) []
+      ∷ finished 2 (numbered s start ps 1 .link) (plain₁ ++ (0 ∷ []))
       ∷ refusal repeat (numbered s start ps 1 .link) (replicate 4 0)
       ∷ refusal shape (numbered s start ps 1 .link) []
       ∷ finished 1 (numbered s start ps 2 .link) plain₂
       ∷ []
 
-  -- three packets are sealed
-  abbrev three : List Packet
-  three = packetAt s start 0 plain₀ ∷ packetAt s start 1 plain₁ ∷ packetAt s start 2 plain₂ ∷ []
+  -- four packets are sealed
+  abbrev four : List Packet
+  four = packetAt s start 0 plain₀ ∷ packetAt s start 1 plain₁ ∷ packetAt s start 2 plain₂ ∷ packetAt s start 3 plain₃ ∷ []
 
-  sealed-three : length start ≡ keyLength s → sealed ≡ three
+  sealed-four : length start ≡ keyLength s → sealed ≡ four
   unfolding packets saidCode onward historyAt keyAt changes
-  sealed-three h = rw (← packet-is s start h 0 plain₀, ← packet-is s start h 1 plain₁, ← packet-is s start h 2 plain₂)
+  sealed-four h = rw (← packet-is s start h 0 plain₀, ← packet-is s start h 1 plain₁, ← packet-is s start h 2 plain₂, ← packet-is s start h 3 plain₃)
 
   -- the repeat is refused with 6, the noise with 1
-  again : length start ≡ keyLength s → openCode longestPlain (numbered s start three 1 .link) (numbered s start three 1 .octets) 4 ≡ repeat
+  again : length start ≡ keyLength s → openCode longestPlain (numbered s start four 1 .link) (numbered s start four 1 .octets) 4 ≡ repeat
   unfolding numbered packetAt
   again h = repeat-code s start h longestPlain 1 plain₁ 4 (refl, refl)
 
-  noise : length start ≡ keyLength s → openCode longestPlain (numbered s start three 1 .link) (0x00 ∷ 0xFD ∷ []) 0 ≡ shape
-  unfolding numbered packetAt openCode
-  noise h = rw (well-at s start h 2)
+  noise-at : length start ≡ keyLength s → (m : ℕ) → openCode longestPlain (recordAt s start m) noise 0 ≡ shape
+  unfolding openCode
+  noise-at h m = rw (well-at s start h m)
 
-  meets-three : length start ≡ keyLength s → Meets longestPlain s start three mostLost 0 (first s start) (opens three)
+  noise-first : length start ≡ keyLength s → openCode longestPlain (first s start) noise 0 ≡ shape
+  noise-first h = rw (first-is s start h) (noise-at h 0)
+
+  noise-next : length start ≡ keyLength s → openCode longestPlain (numbered s start four 1 .link) noise 0 ≡ shape
+  unfolding numbered packetAt
+  noise-next h = noise-at h 2
+
+  meets-four : length start ≡ keyLength s → Meets longestPlain s start four mostLost 0 (first s start) (opens four)
   unfolding Meets
-  meets-three h =
-      let (long₁, long₂) : (length (numbered s start three 1 .plain) ≤ 5) × (length (numbered s start three 2 .plain) ≤ 2) =
-      unfold numbered packetAt in (lit≤ tt, lit≤ tt) in (
-        lit< tt,
-        lit≤ tt,
-        lit≤ tt,
-        refl,
-        long₁,
-        ((λ z. omega (arith, again h, z)), ((λ z. omega (arith, noise h, z)), (lit< tt, lit≤ tt, lit≤ tt, refl, long₂, tt))),
+  meets-four h =
+      let (long₁, long₂) : (length (numbered s start four 1 .plain) ≤ 5) × (length (numbered s start four 2 .plain) ≤ 2) =
+      unfold numbered packetAt in (lit≤ tt, lit≤ tt) in
+      let third : Meets longestPlain s start four mostLost 2 (numbered s start four 1 .link) (arrival 2 (numbered s start four 2 .octets) (replicate 2 0) ∷ []) =
+      unfold Meets in (lit< tt, lit≤ tt, lit≤ tt, refl, long₂, tt) in (
+        (λ z. omega (arith, noise-first h, z)),
+        (lit< tt, lit≤ tt, lit≤ tt, refl, long₁, ((λ z. omega (arith, again h, z)), ((λ z. omega (arith, noise-next h, z)), third))),
       )
 
   pub meets : newLink s start .answer ≡ done → Meets longestPlain s start sealed mostLost 0 (first s start) (opens sealed)
   meets ok =
       let h = start-length s start ok in
-      subst⁻¹ (λ (ps : List Packet). Meets longestPlain s start ps mostLost 0 (first s start) (opens ps)) (sealed-three h) (meets-three h)
+      subst⁻¹ (λ (ps : List Packet). Meets longestPlain s start ps mostLost 0 (first s start) (opens ps)) (sealed-four h) (meets-four h)
 
-  due-three : length start ≡ keyLength s → due longestPlain s start three 0 (first s start) (opens three) ≡ opened three
+  due-four : length start ≡ keyLength s → due longestPlain s start four 0 (first s start) (opens four) ≡ opened four
   unfolding due numbered packetAt
-  due-three h = rw (again h, noise h)
+  due-four h = rw (noise-first h, again h, noise-next h)
 
   -- the claim, of this run
-  pub run-seals : newLink s start .answer ≡ done → map answered (sealRun longestPlain (first s start) seals) ≡ done ∷ size ∷ done ∷ done ∷ []
+  pub run-seals : newLink s start .answer ≡ done → map answered (sealRun longestPlain (first s start) seals) ≡ done ∷ size ∷ done ∷ done ∷ done ∷ []
   unfolding Demand3 said saidCode onward packetOf
   run-seals ok = ap (map answered) (demand-3-base s start ok seals (opens sealed) (meets ok) .0)
 
@@ -104,4 +121,11 @@ module _ (s : Strength) (start : List ℕ) where
   unfolding Demand3
   run-opens ok =
       let h = start-length s start ok in
-      demand-3-base s start ok seals (opens sealed) (meets ok) .1 ∙ rw (sealed-three h) (due-three h)
+      demand-3-base s start ok seals (opens sealed) (meets ok) .1 ∙ rw (sealed-four h) (due-four h)
+
+-- what is due to a call that is no arrival, also where no schedule is met: the first number that applies, and nothing moves
+pub due-other : (limit : ℕ) (s : Strength) (start : List ℕ) (sealed : List Packet) (next : ℕ) (held : Link) (octets room : List ℕ) (cs : List OpenCall)
+    → due limit s start sealed next held (other octets room ∷ cs)
+    ≡ refusal (openCode limit held octets (length room)) held room ∷ due limit s start sealed next held cs
+unfolding due
+due-other limit s start sealed next held octets room cs = refl

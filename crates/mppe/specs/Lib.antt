@@ -8,3 +8,4 @@ pub mod Inner
 pub mod Laws
 pub mod Demand3
 pub mod Example
+pub mod AtLimit
