@@ -18,7 +18,7 @@ use Rattle.mschap_packets.specs.declared.Kind.{Kind}
 use Rattle.mschap_packets.specs.declared.Kind.the-variants as kinds
 use Rattle.mschap_packets.specs.declared.Challenge.{Challenge}
 use Rattle.mschap_packets.specs.declared.Response.{Response}
-use Rattle.mschap_packets.specs.Packet.{longestName, codeOf, valueSize, leastLength, header, packetOf, responseValue, part, lengthField, reserved, anySet, readNumber, challengeRead, responseRead, nameOf, writeNumber, writeOut, challengeNumber, challengeOut, responseNumber, responseOut}
+use Rattle.mschap_packets.specs.Packet.{longestName, codeOf, valueSize, leastLength, header, packetOf, responseValue, part, lengthField, reserved, anySet, readNumber, challengeRead, responseRead, nameOf, nameAt, onward, writeNumber, writeOut, challengeNumber, challengeOut, responseNumber, responseOut}
 use Rattle.mschap_packets.specs.Laws.{length-packet}
 
 -- octets looked at one by one: one that is not zero, the next, the end
@@ -155,16 +155,19 @@ pub response-done : {number : ℕ} {peer response : List ℕ} (packet : List ℕ
 unfolding responseRead
 response-done packet e h ep er = rw (sym e ∙ h, ep, er)
 
--- the name of a packet
-pub name-refused : {number : ℕ} (kind : Kind) (packet : List ℕ) → number ≡ readNumber kind packet → (number ≡ done → ⊥)
-    → [] ≡ nameOf kind packet
-unfolding nameOf
-name-refused kind packet e h = sym (on-refused _ _ _ (λ z. h (e ∙ z)))
+-- the name of a packet, and the place where it begins
+pub name-refused : {number : ℕ} (kind : Kind) (packet : List ℕ) (place : ℕ × ℕ) → number ≡ readNumber kind packet → (number ≡ done → ⊥)
+    → ([] ≡ nameOf kind packet) × (place ≡ onward (nameAt kind packet) place)
+unfolding nameOf nameAt
+name-refused kind packet place e h =
+    let front : 0 ≡ nameAt kind packet = sym (on-refused _ _ _ (λ z. h (e ∙ z))) in
+    (sym (on-refused _ _ _ (λ z. h (e ∙ z))), ap (λ (n : ℕ). (place .0, n)) (omega arith))
 
-pub name-done : {number start end : ℕ} (kind : Kind) (packet : List ℕ) → number ≡ readNumber kind packet → number ≡ done
-    → start ≡ leastLength kind → end ≡ lengthField packet → part start (end - start) packet ≡ nameOf kind packet
-unfolding nameOf
-name-done kind packet e h es ee = rw (sym e ∙ h, es, ee)
+pub name-done : {number start end : ℕ} (kind : Kind) (packet : List ℕ) (place : ℕ × ℕ) → number ≡ readNumber kind packet → number ≡ done
+    → start ≡ leastLength kind → end ≡ lengthField packet
+    → (part start (end - start) packet ≡ nameOf kind packet) × (onward start place ≡ onward (nameAt kind packet) place)
+unfolding nameOf nameAt
+name-done kind packet place e h es ee = (rw (sym e ∙ h, es, ee), rw (sym e ∙ h, es))
 
 -- octets written behind others that stand in front of a buffer
 written-more : {b b′ : List ℕ} (l q out : List ℕ) (at : ℕ) → b ≡ written l out → b′ ≡ writtenAt at (take (length b - at) q) b

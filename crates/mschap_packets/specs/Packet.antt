@@ -108,6 +108,14 @@ unfoldable pub nameOf : Kind → List ℕ → List ℕ
 nameOf kind packet =
     onDone (readNumber kind packet) (part (leastLength kind) (lengthField packet - leastLength kind) packet) []
 
+-- where that part begins in the packet: behind the value; the empty part of a refused packet is its front
+unfoldable pub nameAt : Kind → List ℕ → ℕ
+nameAt kind packet = onDone (readNumber kind packet) (leastLength kind) 0
+
+-- the place in memory so many octets behind another: a block, and an octet in it
+abbrev pub onward : ℕ → ℕ × ℕ → ℕ × ℕ
+onward n place = (place .0, n + place .1)
+
 -- the number for a packet to be written, with or without a wrong length in its value: "Packet writers: 3, 2"
 unfoldable pub writeNumber : Bool → List ℕ → List ℕ → List ℕ → ℕ
 writeNumber wrongValue packet name out =

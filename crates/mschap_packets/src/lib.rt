@@ -3,7 +3,7 @@ ghost use mathlib.Core.Path.{_≡_};
 ghost use mathlib.Core.Bool.{false};
 ghost use Prim.Native.Nat.{_+_, _*_, _≤_};
 ghost use lib.ListN.{length};
-ghost use Rattle.mschap_packets.specs.Packet.{codeOf, valueSize, leastLength, part, anySet, reserved, header as headerOf, packetOf, responseValue, readNumber, challengeRead, responseRead, nameOf, writeNumber, writeOut, challengeNumber, challengeOut, responseNumber, responseOut};
+ghost use Rattle.mschap_packets.specs.Packet.{codeOf, valueSize, leastLength, part, anySet, reserved, header as headerOf, packetOf, responseValue, readNumber, challengeRead, responseRead, nameOf, nameAt, onward, writeNumber, writeOut, challengeNumber, challengeOut, responseNumber, responseOut};
 use octets::copy;
 use octets::copy_at;
 
@@ -79,7 +79,8 @@ pub fn read_response(packet: &[u8]) -> Response
 
 // The name in a packet, as that part of the packet; the empty part where it is refused.
 pub fn name(kind: Kind, packet: &[u8]) -> &[u8]
-    ensures { λ r. ⌜ now r ≡ nameOf kind (now (packet .entry)) ⌝ }
+    ensures { λ r. ⌜ (now r ≡ nameOf kind (now (packet .entry)))
+        × (r .ptr ≡ onward (nameAt kind (now (packet .entry))) (packet .entry .ptr)) ⌝ }
 {
     if read_number(kind, packet) != answer::DONE {
         return &packet[..0];

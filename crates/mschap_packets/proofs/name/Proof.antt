@@ -11,7 +11,7 @@ slice-aggregate-result : tie.Need-slice-aggregate-result
 slice-aggregate-result c = search needs
 
 returns : tie.Need-returns
-returns c = name-refused _ _ (c .before .before .read-number .ensures) (c .before .if1 .taken)
+returns c = name-refused _ _ _ (c .before .before .read-number .ensures) (c .before .if1 .taken)
 
 least-length-requires : tie.Need-least-length-requires
 least-length-requires c κs = search needs
@@ -35,7 +35,7 @@ part-result-end : tie.Need-part-result-end
 part-result-end c = let w = within _ _ (c .before .before .before .before .before .read-number .ensures) (c .before .before .before .before .if1 .left) in omega (arith, w .0, w .1)
 
 returns-2 : tie.Need-returns-2
-returns-2 c = name-done _ _ (c .before .before .before .before .before .before .read-number .ensures) (c .before .before .before .before .before .if1 .left) (c .before .before .before .before .least-length .ensures .0) (c .before .joined .ensures)
+returns-2 c = name-done _ _ _ (c .before .before .before .before .before .before .read-number .ensures) (c .before .before .before .before .before .if1 .left) (c .before .before .before .before .least-length .ensures .0) (c .before .joined .ensures)
 
 pub name-spec : {M : Type 1} → statement M
 name-spec =
