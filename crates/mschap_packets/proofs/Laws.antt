@@ -19,7 +19,7 @@ use Rattle.mschap_packets.specs.declared.Kind.the-variants as kinds
 use Rattle.mschap_packets.specs.declared.Challenge.{Challenge}
 use Rattle.mschap_packets.specs.declared.Response.{Response}
 use Rattle.mschap_packets.specs.Packet.{longestName, codeOf, valueSize, leastLength, header, packetOf, responseValue, part, lengthField, reserved, anySet, readNumber, challengeRead, responseRead, nameOf, nameAt, onward, writeNumber, writeOut, challengeNumber, challengeOut, responseNumber, responseOut}
-use Rattle.mschap_packets.specs.Laws.{length-packet}
+use Rattle.mschap_packets.specs.Laws.{earlier, read-done, length-packet, set-append}
 
 -- octets looked at one by one: one that is not zero, the next, the end
 pub set-found : (l : List ℕ) (i : ℕ) → anySet l ≡ anySet (drop i l) → (getD l i 0 ≡ 0 → ⊥) → i < length l → true ≡ anySet l
@@ -32,14 +32,6 @@ pub set-none : (l : List ℕ) (i : ℕ) → anySet l ≡ anySet (drop i l) → l
 set-none l i e h = sym (e ∙ rw (drop-of-length-le l {i = i} h))
 
 -- a Response's reserved octets stand in two places
-set-append : (a b : List ℕ) → anySet (a ++ b) ≡ anySet a || anySet b
-set-append [] b = refl
-set-append (x ∷ a) b = rw (set-append a b) (sym (or-assoc (not (eqb x 0)) (anySet a) (anySet b)))
-  where
-    or-assoc : (x y z : Bool) → (x || y) || z ≡ x || (y || z)
-    or-assoc true y z = refl
-    or-assoc false y z = refl
-
 pub reserved-two : {s t : Bool} (kind : Kind) (packet : List ℕ) → kind ≡ kinds.Response → s ≡ anySet (part 21 8 packet)
     → t ≡ anySet (part 53 1 packet) → s || t ≡ anySet (reserved kind packet)
 reserved-two kind packet e es et = rw (e, es, et) (sym (set-append (part 21 8 packet) (part 53 1 packet)))
@@ -74,11 +66,6 @@ value-laid {v₁} peer response e₁ e₂ hp hr =
     let laid : v₁ ≡ (peer ++ replicate 8 0) ++ replicate 25 0 = e₁ ∙ rw (all, hp, append-assoc) in
     append-more (peer ++ replicate 8 0) response 24 25 laid e₂ (sym front) (omega arith) ∙ rw hr
 
--- an earlier row of the same number changes nothing
-earlier : (t : Bool) (n : ℕ) → pick t n n ≡ n
-earlier true n = refl
-earlier false n = refl
-
 -- a packet's tests, one by one
 pub read-short : {least : ℕ} (kind : Kind) (packet : List ℕ) → least ≡ leastLength kind → length packet < least
     → shape ≡ readNumber kind packet
@@ -94,11 +81,6 @@ pub read-size : {size : ℕ} (kind : Kind) (packet : List ℕ) → size ≡ valu
     → shape ≡ readNumber kind packet
 unfolding readNumber
 read-size kind packet e n = simp (ne-eqb (getD packet 4 0) (valueSize kind) (λ h. n (h ∙ sym e)), earlier)
-
-pub read-least : {least n : ℕ} (kind : Kind) (packet : List ℕ) → least ≡ leastLength kind → n ≡ lengthField packet → n < least
-    → shape ≡ readNumber kind packet
-unfolding readNumber
-read-least kind packet el en h = simp (lt-ltb (lengthField packet) (leastLength kind) (omega arith), earlier)
 
 pub read-beyond : {n : ℕ} (kind : Kind) (packet : List ℕ) → n ≡ lengthField packet → length packet < n → shape ≡ readNumber kind packet
 unfolding readNumber
@@ -117,15 +99,9 @@ on-refused (suc n) result refused h = refl
 -- a packet that is read has room for its value, and its length lies in the slice
 pub within : {number : ℕ} (kind : Kind) (packet : List ℕ) → number ≡ readNumber kind packet → number ≡ done
     → (leastLength kind ≤ lengthField packet) × (lengthField packet ≤ length packet)
-within kind packet e h = (least (decLe (leastLength kind) (lengthField packet)), inside (decLe (lengthField packet) (length packet)))
-  where
-    least : Dec (leastLength kind ≤ lengthField packet) → leastLength kind ≤ lengthField packet
-    least (yes p) = p
-    least (no p) = absurd (suc-ne-zero _ (read-least kind packet refl refl (omega arith) ∙ sym e ∙ h))
-
-    inside : Dec (lengthField packet ≤ length packet) → lengthField packet ≤ length packet
-    inside (yes p) = p
-    inside (no p) = absurd (suc-ne-zero _ (read-beyond kind packet refl (omega arith) ∙ sym e ∙ h))
+within kind packet e h =
+    let sound = read-done kind packet (sym e ∙ h) in
+    (sound .least, sound .inside)
 
 -- what is read of a Challenge
 pub challenge-refused : {number : ℕ} (packet : List ℕ) → number ≡ readNumber kinds.Challenge packet → (number ≡ done → ⊥)

@@ -69,18 +69,21 @@ abbrev pub anySet : List ℕ → Bool
 anySet [] = false
 anySet (x ∷ xs) = not (eqb x 0) || anySet xs
 
--- the number for a packet to be read: "Packet readers: 1, 3"
-unfoldable pub readNumber : Kind → List ℕ → ℕ
-readNumber kind packet =
-    firstOf
-    ((shape, ltb (length packet) (leastLength kind))
+-- what is asked of a packet: "Packet readers: 1, 3"
+abbrev pub readRows : Kind → List ℕ → List (ℕ × Bool)
+readRows kind packet =
+    (shape, ltb (length packet) (leastLength kind))
     ∷ (shape, not (eqb (getD packet 0 0) (codeOf kind)))
     ∷ (shape, not (eqb (getD packet 4 0) (valueSize kind)))
     ∷ (shape, ltb (lengthField packet) (leastLength kind))
     ∷ (shape, ltb (length packet) (lengthField packet))
     ∷ (shape, anySet (reserved kind packet))
     ∷ (size, ltb longestName (lengthField packet - leastLength kind))
-    ∷ [])
+    ∷ []
+
+-- the number for a packet to be read
+unfoldable pub readNumber : Kind → List ℕ → ℕ
+readNumber kind packet = firstOf (readRows kind packet)
 
 -- a Challenge read: its value is its challenge
 unfoldable pub challengeRead : List ℕ → Challenge
@@ -116,10 +119,14 @@ nameAt kind packet = onDone (readNumber kind packet) (leastLength kind) 0
 abbrev pub onward : ℕ → ℕ × ℕ → ℕ × ℕ
 onward n place = (place .0, n + place .1)
 
--- the number for a packet to be written, with or without a wrong length in its value: "Packet writers: 3, 2"
+-- what is asked of a packet to be written, with or without a wrong length in its value: "Packet writers: 3, 2"
+abbrev pub writeRows : Bool → List ℕ → List ℕ → List ℕ → List (ℕ × Bool)
+writeRows wrongValue packet name out =
+    (size, wrongValue) ∷ (size, ltb longestName (length name)) ∷ (room, ltb (length out) (length packet)) ∷ []
+
+-- the number for a packet to be written
 unfoldable pub writeNumber : Bool → List ℕ → List ℕ → List ℕ → ℕ
-writeNumber wrongValue packet name out =
-    firstOf ((size, wrongValue) ∷ (size, ltb longestName (length name)) ∷ (room, ltb (length out) (length packet)) ∷ [])
+writeNumber wrongValue packet name out = firstOf (writeRows wrongValue packet name out)
 
 -- the lent buffer, with the packet in front where it is written
 unfoldable pub writeOut : Bool → List ℕ → List ℕ → List ℕ → List ℕ

@@ -1,7 +1,7 @@
 use borrow.Author.Tests.{lt-ltb, le-ltb}
 use borrow.Author.Needs.{needs}
-use Rattle.mschap_packets.proofs.Laws.{read-short, read-code, read-size, read-least, read-beyond, read-reserved}
-use Rattle.mschap_packets.specs.Laws.{read-name}
+use Rattle.mschap_packets.proofs.Laws.{read-short, read-code, read-size, read-beyond, read-reserved}
+use Rattle.mschap_packets.specs.Laws.{read-least, read-name}
 use Rattle.mschap_packets.proofs.read_number.Statement.{statement}
 use Rattle.mschap_packets.proofs.read_number.Tie as tie
 
