@@ -4,7 +4,6 @@ use mathlib.Core.Bool.{true, false}
 use mathlib.Core.List.{List, [], _∷_}
 use Prim.Native.Nat.{ℕ}
 use Rattle.answer.specs.Answer.{done, strength}
-use Rattle.octets.specs.Octets.{bigEndian}
 use Rattle.mppe_keys.specs.declared.Strength.the-variants.{Bits40, Bits56, Bits128}
 use Rattle.mppe_keys.specs.Keys.{headOf, reduced}
 use Rattle.ccp.specs.declared.Mode.the-variants.{Stateless}
@@ -13,7 +12,7 @@ use Rattle.ccp.specs.declared.Choice.{Choice}
 use Rattle.ccp.specs.declared.Offer.{Offer}
 use Rattle.ccp.specs.declared.Reply.{Reply}
 use Rattle.ccp.specs.declared.Reply.the-variants.{CounterOffer, Refused}
-use Rattle.ccp.specs.Option.{optionType, optionLength, modeOf, strengthsOf, wordOf, only}
+use Rattle.ccp.specs.Option.{modeOf, strengthsOf, wordOf, only}
 use Rattle.ccp.specs.Answers.{readNumber, supportedBits, readAnswer, replyNumber, chosen, replyWith, replyAnswer, replyWord}
 use Rattle.mppe.specs.Link.{distance, header}
 use Rattle.sstp.specs.Binding.{lengthOctets}
@@ -32,9 +31,9 @@ abbrev pub AllEqual : List Pair → Type 0
 AllEqual [] = Unit {0}
 AllEqual (p ∷ ps) = (p .given ≡ p .expected) × AllEqual ps
 
--- an option's six octets with these supported bits
-abbrev option : ℕ → List ℕ
-option word = optionType ∷ optionLength ∷ bigEndian 4 word
+-- an option's six octets, with these supported bits: "Type 18, length 6, four octets, highest first"
+abbrev option : List ℕ → List ℕ
+option bits = 0x12 ∷ 0x06 ∷ bits
 
 -- all strengths allowed
 abbrev every : Strengths
@@ -57,13 +56,13 @@ cases =
     ∷ pair (header 256) (0x91 ∷ 0x00 ∷ [])
     ∷ pair (header 4095) (0x9F ∷ 0xFF ∷ [])
     -- "K9: 01000040 reads stateless, 128."
-    ∷ pair (readAnswer (option 0x01000040)) (record { answer = done; mode = Stateless; strengths = only Bits128 })
+    ∷ pair (readAnswer (option (0x01 ∷ 0x00 ∷ 0x00 ∷ 0x40 ∷ []))) (record { answer = done; mode = Stateless; strengths = only Bits128 })
     -- "K10: request 010000E0, all allowed, counter-offer 01000040."
-    ∷ pair (replied (option 0x010000E0) every) (CounterOffer (record { strength = Bits128; mode = Stateless }), 0x01000040)
+    ∷ pair (replied (option (0x01 ∷ 0x00 ∷ 0x00 ∷ 0xE0 ∷ [])) every) (CounterOffer (record { strength = Bits128; mode = Stateless }), 0x01000040)
     -- "K11: 00000020, all allowed, counter-offer 01000020."
-    ∷ pair (replied (option 0x00000020) every) (CounterOffer (record { strength = Bits40; mode = Stateless }), 0x01000020)
+    ∷ pair (replied (option (0x00 ∷ 0x00 ∷ 0x00 ∷ 0x20 ∷ [])) every) (CounterOffer (record { strength = Bits40; mode = Stateless }), 0x01000020)
     -- "K12: 01000020, only 128 allowed, 8."
-    ∷ pair (replyAnswer (option 0x01000020) (only Bits128)) (Refused strength)
+    ∷ pair (replyAnswer (option (0x01 ∷ 0x00 ∷ 0x00 ∷ 0x20 ∷ [])) (only Bits128)) (Refused strength)
     -- "K13: D8 08 01 53 8C EC 4A 08 reduced to 56 is D1 08 01 53 8C EC 4A 08"
     ∷ pair (reduced Bits56 (0xD8 ∷ 0x08 ∷ 0x01 ∷ 0x53 ∷ 0x8C ∷ 0xEC ∷ 0x4A ∷ 0x08 ∷ []))
     (0xD1 ∷ 0x08 ∷ 0x01 ∷ 0x53 ∷ 0x8C ∷ 0xEC ∷ 0x4A ∷ 0x08 ∷ [])
