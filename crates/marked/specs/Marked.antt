@@ -1,6 +1,6 @@
 -- The fourteen marked cases of 01, K1 to K14: a list of pairs of what the definitions give and what 01 says, under one claim.
 use mathlib.Core.Path.{_≡_, refl}
-use mathlib.Core.Bool.{true, false}
+use mathlib.Core.Bool.{true}
 use mathlib.Core.List.{List, [], _∷_}
 use Prim.Native.Nat.{ℕ}
 use Rattle.answer.specs.Answer.{done, strength}
@@ -8,8 +8,6 @@ use Rattle.mppe_keys.specs.declared.Strength.the-variants.{Bits40, Bits56, Bits
 use Rattle.mppe_keys.specs.Keys.{headOf, reduced}
 use Rattle.ccp.specs.declared.Mode.the-variants.{Stateless}
 use Rattle.ccp.specs.declared.Strengths.{Strengths}
-use Rattle.ccp.specs.declared.Choice.{Choice}
-use Rattle.ccp.specs.declared.Offer.{Offer}
 use Rattle.ccp.specs.declared.Reply.{Reply}
 use Rattle.ccp.specs.declared.Reply.the-variants.{CounterOffer, Refused}
 use Rattle.ccp.specs.Option.{modeOf, strengthsOf, wordOf, only}

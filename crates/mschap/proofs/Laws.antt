@@ -15,7 +15,7 @@ use borrow.Author.Tests.{ltb-false, lt-ltb, le-ltb, eq-eqb, ne-eqb}
 use Rattle.answer.specs.Answer.{done, size, domain, pick, firstOf, onDone, wrong}
 use Rattle.octets.specs.Octets.{written, writtenAt, longestText}
 use Rattle.octets.proofs.Below.{below}
-use Rattle.octets.proofs.Laws.{copy-fits, append-more, drop-zeros}
+use Rattle.octets.proofs.Laws.{copy-fits, append-more}
 use Rattle.md4.specs.Md4.{md4, md4Answer}
 use Rattle.md4.specs.declared.Digest.{Digest as Md4Digest}
 use Rattle.md4.proofs.Laws.{md4-done}
@@ -30,11 +30,10 @@ use Rattle.mschap.specs.declared.ChallengeHash.{ChallengeHash}
 use Rattle.mschap.specs.declared.NtResponse.{NtResponse}
 use Rattle.mschap.specs.declared.AuthenticatorString.{AuthenticatorString}
 use Rattle.mschap.specs.declared.Checked.{Checked}
-use Rattle.mschap.specs.declared.HashedName.{HashedName}
 use Rattle.mschap.specs.Lengths.{longestPassword, longestName}
 use Rattle.mschap.specs.Name.{backslash, holds, nameRows, hashedName}
 use Rattle.mschap.specs.Mschap.{passwordHash, hashHash, challengeHash, zPasswordHash, challengeResponse, ntResponse, magic1, magic2, hexDigit, hexDigits, encoded, signature, authenticatorString, equal}
-use Rattle.mschap.specs.Answers.{passwordRows, responseRows, stringRows, hashAnswer, challengeAnswer, responseAnswer, stringAnswer, checkAnswer, nameAnswer, ntResponseAnswer, authenticatorStringAnswer, checkResponseAnswer, checkAuthenticatorAnswer}
+use Rattle.mschap.specs.Answers.{passwordRows, responseRows, stringRows, hashAnswer, challengeAnswer, responseAnswer, stringAnswer, checkAnswer, ntResponseAnswer, authenticatorStringAnswer, checkResponseAnswer, checkAuthenticatorAnswer}
 use Rattle.mschap.specs.Laws.{name-fits, hexDigits-length}
 
 -- an octet looked for: it stands here, not here, nowhere
@@ -279,50 +278,29 @@ unfolding stringAnswer
 string-told number string e =
     told (λ (x : AuthenticatorString). x .answer) (λ (x : AuthenticatorString). x .octets) (stringAnswer number string) number string (replicate 42 0) e refl refl
 
--- the ways out of a name
-pub name-long : (name : List ℕ) → longestName < length name
-    → _≡_ {A = HashedName} (record { answer = size; len = 0; octets = replicate 256 0 }) (nameAnswer name)
-unfolding nameAnswer
+-- the rows of a name
+pub name-long : (name : List ℕ) → longestName < length name → size ≡ firstOf (nameRows name)
 name-long name h = rw (lt-ltb longestName (length name) h)
 
-pub name-domain : {t : Bool} (name : List ℕ) → t ≡ holds backslash name → length name ≤ longestName → t ≡ true
-    → _≡_ {A = HashedName} (record { answer = domain; len = 0; octets = replicate 256 0 }) (nameAnswer name)
-unfolding nameAnswer
+pub name-domain : {t : Bool} (name : List ℕ) → t ≡ holds backslash name → length name ≤ longestName → t ≡ true → domain ≡ firstOf (nameRows name)
 name-domain name et h e = rw (le-ltb longestName (length name) h, ← et, e)
 
-pub name-done : {t : Bool} {o : List ℕ} (name : List ℕ) → t ≡ holds backslash name → length name ≤ longestName → t ≡ false
-    → o ≡ written (take 256 name) (replicate 256 0)
-    → _≡_ {A = HashedName} (record { answer = done; len = length name; octets = o }) (nameAnswer name)
-unfolding nameAnswer hashedName
-name-done name et h e eo = rw (name-fits name h (sym et ∙ e), eo, take-all 256 name h, drop-zeros)
+pub name-done : {t : Bool} (name : List ℕ) → t ≡ holds backslash name → length name ≤ longestName → t ≡ false → done ≡ firstOf (nameRows name)
+name-done name et h e = sym (name-fits name h (sym et ∙ e))
 
--- what a caller learns from a name
-pub name-told : {u : HashedName} (name : List ℕ) → u ≡ nameAnswer name → u .answer ≡ firstOf (nameRows name)
-unfolding nameAnswer
-name-told name e = ap (λ (u : HashedName). u .answer) e
-
-name-part : {u : HashedName} (name : List ℕ) → u ≡ nameAnswer name → u .answer ≡ 0
-    → (u .len ≡ length (hashedName name)) × (take (u .len) (u .octets) ≡ hashedName name)
-unfolding nameAnswer
-name-part name e z =
-    let number : firstOf (nameRows name) ≡ 0 = sym (name-told name e) ∙ z in
-    (rw (e, number), rw (e, number, take-append-seam (hashedName name) (replicate (longestName - length (hashedName name)) 0)))
-
-name-short : (name : List ℕ) → firstOf (nameRows name) ≡ 0 → length (hashedName name) ≤ longestName
+-- what is hashed of a name is no longer than a name may be
+pub name-short : {number : ℕ} (name : List ℕ) → number ≡ firstOf (nameRows name) → number ≡ 0 → length (hashedName name) ≤ longestName
 unfolding hashedName
-name-short name h = go (ltb longestName (length name)) refl
+name-short name e z = go (ltb longestName (length name)) refl
   where
     go : (t : Bool) → ltb longestName (length name) ≡ t → length name ≤ longestName
-    go true e = absurd (not-size (rw e at h))
-    go false e = ltb-false longestName (length name) e
+    go true et = absurd (not-size (rw et at (sym e ∙ z)))
+    go false et = ltb-false longestName (length name) et
 
-pub name-len : {u : HashedName} (name : List ℕ) → u ≡ nameAnswer name → u .answer ≡ 0 → u .len ≤ 256
-name-len name e z = omega (arith, name-part name e z .0, name-short name (sym (name-told name e) ∙ z))
-
-pub challenge-hashed : {u : HashedName} {d o : List ℕ} (peer authenticator name : List ℕ) → u ≡ nameAnswer name → u .answer ≡ 0
-    → d ≡ sha1 (peer ++ authenticator ++ take (u .len) (u .octets)) → o ≡ take 8 d → o ≡ challengeHash peer authenticator name
+pub challenge-hashed : {user digest o : List ℕ} (peer authenticator name : List ℕ) → user ≡ hashedName name
+    → digest ≡ sha1 (peer ++ authenticator ++ user) → o ≡ take 8 digest → o ≡ challengeHash peer authenticator name
 unfolding challengeHash
-challenge-hashed peer authenticator name e z ed eo = rw (eo, ed, name-part name e z .1)
+challenge-hashed peer authenticator name eu ed eo = rw (eo, ed, eu)
 
 -- a number behind the rows of a password, and that of a password
 pub behind-password : {n m : ℕ} (password : List ℕ) (rows : List (ℕ × Bool)) → m ≡ firstOf (passwordRows password) → m ≡ 0

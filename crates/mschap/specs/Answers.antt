@@ -1,7 +1,7 @@
 -- What the calls answer (01, "Numbers a call may answer" and "Lengths"). Every row of 3 stands before the one of 9.
 use mathlib.Core.Bool.{Bool, false, not}
 use mathlib.Core.List.{List, [], _∷_, _++_}
-use Prim.Native.Nat.{ℕ, _-_, _%_}
+use Prim.Native.Nat.{ℕ, _%_}
 use lib.Dec.{eqb, ltb}
 use lib.ListN.{length, replicate}
 use Rattle.answer.specs.Answer.{size, firstOf, onDone, wrong}
@@ -10,9 +10,8 @@ use Rattle.mschap.specs.declared.ChallengeHash.{ChallengeHash}
 use Rattle.mschap.specs.declared.NtResponse.{NtResponse}
 use Rattle.mschap.specs.declared.AuthenticatorString.{AuthenticatorString}
 use Rattle.mschap.specs.declared.Checked.{Checked}
-use Rattle.mschap.specs.declared.HashedName.{HashedName}
-use Rattle.mschap.specs.Lengths.{longestPassword, longestName, challengeLength, responseLength, hashLength, challengeHashLength, stringLength}
-use Rattle.mschap.specs.Name.{nameRows, hashedName}
+use Rattle.mschap.specs.Lengths.{longestPassword, challengeLength, responseLength, hashLength, challengeHashLength, stringLength}
+use Rattle.mschap.specs.Name.{nameRows}
 use Rattle.mschap.specs.Mschap.{passwordHash, hashHash, challengeHash, challengeResponse, ntResponse, authenticatorString, equal}
 
 -- "Password: 0 to 512 octets, even"
@@ -47,17 +46,6 @@ stringAnswer number string = record { answer = number; octets = onDone number st
 -- a refused answer has "its yes or no a no"; "A comparison that finds a difference says no; that is a 0"
 unfoldable pub checkAnswer : ℕ → Bool → Checked
 checkAnswer number same = record { answer = number; yes = onDone number same false }
-
--- the octets of a name that are hashed, in as many places as a name may have, and how many they are
-unfoldable pub nameAnswer : List ℕ → HashedName
-nameAnswer name =
-    let number : ℕ = firstOf (nameRows name) in
-    let octets : List ℕ = hashedName name in
-    record {
-      answer = number;
-      len = onDone number (length octets) 0;
-      octets = onDone number (octets ++ replicate (longestName - length octets) 0) (replicate longestName 0);
-    }
 
 -- the answers of the calls
 unfoldable pub passwordHashAnswer : List ℕ → Hash

@@ -4,14 +4,14 @@ ghost use mathlib.Core.Bool.{false};
 ghost use mathlib.Core.List.{_∷_, [], _++_};
 ghost use Prim.Native.Nat.{_+_, _/_, _%_, _<_, _≤_};
 ghost use lib.ListN.{length, take, replicate};
-ghost use Rattle.answer.specs.Answer.{size};
+ghost use Rattle.answer.specs.Answer.{size, firstOf};
 ghost use Rattle.octets.specs.Octets.{written, longestText};
 ghost use Rattle.md4.specs.Md4.{md4 as md4Of};
 ghost use Rattle.sha1.specs.Sha1.{sha1 as sha1Of};
 ghost use Rattle.des.specs.Des.{encrypted};
-ghost use Rattle.mschap.specs.Name.{holds as isHeld};
+ghost use Rattle.mschap.specs.Name.{holds as isHeld, nameRows, hashedName};
 ghost use Rattle.mschap.specs.Mschap.{challengeResponse, hexDigit, encoded as encodedOf, signature as signatureOf, equal};
-ghost use Rattle.mschap.specs.Answers.{nameAnswer, passwordHashAnswer, hashHashAnswer, challengeHashAnswer, challengeResponseAnswer, ntResponseAnswer, authenticatorStringAnswer, checkResponseAnswer, checkAuthenticatorAnswer};
+ghost use Rattle.mschap.specs.Answers.{passwordHashAnswer, hashHashAnswer, challengeHashAnswer, challengeResponseAnswer, ntResponseAnswer, authenticatorStringAnswer, checkResponseAnswer, checkAuthenticatorAnswer};
 use octets::copy;
 use octets::copy_at;
 
@@ -62,13 +62,6 @@ pub struct Checked {
     pub yes: bool,
 }
 
-// The number for a name, and the octets of it that are hashed, with zeros behind them.
-struct HashedName {
-    answer: u8,
-    len: usize,
-    octets: [u8; 256],
-}
-
 // The hash of a password (8.3).
 pub fn password_hash(password: &[u8]) -> Hash
     ensures { λ r. ⌜ r ≡ passwordHashAnswer (now (password .entry)) ⌝ }
@@ -108,13 +101,11 @@ pub fn challenge_hash(peer: &[u8], authenticator: &[u8], name: &[u8]) -> Challen
     if authenticator.len() != CHALLENGE_LENGTH {
         return refused_challenge(answer::SIZE);
     }
-    let user = hashed_name(name);
-    if user.answer != answer::DONE {
-        return refused_challenge(user.answer);
+    let code = name_code(name);
+    if code != answer::DONE {
+        return refused_challenge(code);
     }
-    let octets = user.octets;
-    let n = user.len;
-    let digest = sha1_of(peer, authenticator, &octets[..n]);
+    let digest = sha1_of(peer, authenticator, hashed_name(name));
     ChallengeHash {
         answer: answer::DONE,
         octets: first_eight(&digest),
@@ -288,34 +279,24 @@ fn refused_check(number: u8) -> Checked
     }
 }
 
-// The octets of a name that are hashed, or its refusal. Every call that hashes a name reads it here.
-fn hashed_name(name: &[u8]) -> HashedName
-    ensures { λ r. ⌜ r ≡ nameAnswer (now (name .entry)) ⌝ }
+// The number for a name that is to be hashed.
+fn name_code(name: &[u8]) -> u8
+    ensures { λ r. ⌜ r ≡ firstOf (nameRows (now (name .entry))) ⌝ }
 {
     if LONGEST_NAME < name.len() {
-        return refused_name(answer::SIZE);
+        return answer::SIZE;
     }
     if holds(name, BACKSLASH) {
-        return refused_name(answer::DOMAIN);
+        return answer::DOMAIN;
     }
-    let mut octets = [0u8; 256];
-    copy(name, &mut octets);
-    HashedName {
-        answer: answer::DONE,
-        len: name.len(),
-        octets,
-    }
+    answer::DONE
 }
 
-// A refusal of a name.
-fn refused_name(number: u8) -> HashedName
-    ensures { λ r. ⌜ r ≡ record { answer = number; len = 0; octets = replicate 256 0 } ⌝ }
+// The part of a name that is hashed: all of it, since one with a domain is refused. Every call that hashes a name takes it from here.
+fn hashed_name(name: &[u8]) -> &[u8]
+    ensures { λ r. ⌜ now r ≡ hashedName (now (name .entry)) ⌝ }
 {
-    HashedName {
-        answer: number,
-        len: 0,
-        octets: [0u8; 256],
-    }
+    name
 }
 
 // Whether an octet is among others.

@@ -3,15 +3,12 @@ use mathlib.Core.Path.{_≡_, refl, sym, ap, _∙_}
 use mathlib.Core.Bool.{Bool, true, false, not, _||_}
 use mathlib.Core.List.{List, [], _∷_, _++_, append-assoc, append-nil}
 use Prim.Native.Nat.{ℕ, zero, suc, _+_, _-_, _/_, _%_, _≤_, _<_}
-use native.Mathlib.Nat.{suc-ne-zero}
 use native.Mathlib.Numerals.{add-one}
-use native.Mathlib.Decide.{decLe}
 use native.Mathlib.Omega.{arith}
-use lib.Dec.{eqb}
 use lib.ListN.{length, take, drop, getD, replicate, length-append, length-drop, drop-of-length-le}
 use lib.Seq.{take-all, take-append-seam, drop-cons, drop-drop, drop-append-add, length-take-le}
 use borrow.Author.Tests.{lt-ltb, le-ltb, eq-eqb, ne-eqb}
-use Rattle.answer.specs.Answer.{done, shape, room, size, pick, onDone}
+use Rattle.answer.specs.Answer.{done, shape, room, size, onDone}
 use Rattle.octets.specs.Octets.{written, writtenAt}
 use Rattle.octets.proofs.Laws.{copy-fits, drop-zeros, append-more}
 use Rattle.mschap_packets.specs.declared.Kind.{Kind}
