@@ -7,13 +7,21 @@ use Rattle.mschap.proofs.Laws.{not-size, row-wrong, behind, response-to
 use Rattle.mschap.proofs.check_response.Statement.{statement}
 use Rattle.mschap.proofs.check_response.Tie as tie
 
+-- the call, from its first test on
+abbrev start : tie.After-shared-slice-known5 → tie.Start
+start p =
+    let second = p .before .before .before in
+    second .before .before
+
 refused-check-requires : tie.Need-refused-check-requires
 refused-check-requires c κs = search needs
 
 returns : tie.Need-returns
 unfolding checkResponseAnswer checkAnswer
-returns c = c .refused-check .ensures ∙ refused check-of _ _ _ (row-wrong 24
-    (c .before .before .before .before .before .before .before .args .received .now) _ (c .before .if1 .taken)) not-size
+returns c =
+    let first = c .before in
+    let s = start (first .before) .args in
+    c .refused-check .ensures ∙ refused check-of _ _ _ (row-wrong 24 (s .received .now) _ (first .if1 .taken)) not-size
 
 nt-response-requires : tie.Need-nt-response-requires
 nt-response-requires c κs = search needs
@@ -23,22 +31,30 @@ refused-check-requires-2 c κs = search needs
 
 returns-2 : tie.Need-returns-2
 unfolding checkResponseAnswer ntResponseAnswer checkAnswer
-returns-2 c = c .refused-check2 .ensures ∙ refused check-of _ _ _
-    (behind 24 (c .before .before .before .before .before .before .before .before .before .before .args .received .now) _
-    (c .before .before .before .before .if1 .left) (response-told _ _ (c .before .before .before .nt-response .ensures) .0))
-    (c .before .if2 .taken)
+returns-2 c =
+    let tested = c .before in
+    let own = tested .before .before in
+    let first = own .before in
+    let s = start (first .before) .args in
+    c .refused-check2 .ensures ∙ refused check-of _ _ _ (behind 24 (s .received .now) _ (first .if1 .left) (response-told _ _ (own .nt-response .ensures) .0))
+    (tested .if2 .taken)
 
 slice-aggregate-same : tie.Need-slice-aggregate-same
 slice-aggregate-same c = search needs
 
 same-requires : tie.Need-same-requires
-same-requires c κs = let r = c .before .before .before .before .nt-response .result .octets in let size : length r ≡ 24 = search needs in
-    (omega arith, omega (arith, c .before .before .before .before .before .if1 .left))
+same-requires c κs =
+    let tested = c .before .before in
+    let own = tested .before .before in
+    let size : length (own .nt-response .result .octets) ≡ 24 = search needs in
+    (omega arith, omega (arith, own .before .if1 .left))
 
 returns-3 : tie.Need-returns-3
-returns-3 c = let r = c .before .before .before .before .before .nt-response in
-    let size : length (r .result .octets) ≡ 24 = search needs in
-    response-checked _ _ _ _ _ (r .ensures) (c .before .before .before .if2 .left) size (c .before .before .before .before .before .before .if1 .left) (c .same .ensures)
+returns-3 c =
+    let tested = c .before .before .before in
+    let own = tested .before .before in
+    let size : length (own .nt-response .result .octets) ≡ 24 = search needs in
+    response-checked _ _ _ _ _ (own .nt-response .ensures) (tested .if2 .left) size (own .before .if1 .left) (c .same .ensures)
 
 pub check-response-spec : {M : Type 1} → statement M
 check-response-spec =

@@ -7,7 +7,10 @@ encrypt-requires : tie.Need-encrypt-requires
 encrypt-requires c κs = search needs
 
 returns : tie.Need-returns
-returns c = let p = c .before .before .before .before .pre in des-octets _ _ (c .before .encrypt .ensures) (p .0) (p .1)
+returns c =
+    let enciphered = c .before in
+    let s = enciphered .before .before .before in
+    des-octets _ _ (enciphered .encrypt .ensures) (s .pre .0) (s .pre .1)
 
 pub encipher-spec : {M : Type 1} → statement M
 encipher-spec = tie.close (tie.spec encrypt-requires returns)

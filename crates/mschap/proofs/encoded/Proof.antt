@@ -44,7 +44,10 @@ add-copy-at : tie.Need-add-copy-at Inv-loop μ-loop
 add-copy-at c = search needs
 
 slice-aggregate-copy-at-2 : tie.Need-slice-aggregate-copy-at-2 Inv-loop μ-loop
-slice-aggregate-copy-at-2 c = sym (c .before .before .before .before .before .loop .inv .1)
+slice-aggregate-copy-at-2 c =
+    let digits = c .before .before in
+    let turn = digits .before .before in
+    sym (turn .before .loop .inv .1)
 
 copy-at-requires : tie.Need-copy-at-requires Inv-loop μ-loop
 copy-at-requires c κs = search needs
@@ -56,16 +59,28 @@ loop-less : tie.Need-loop-less Inv-loop μ-loop
 loop-less c = search needs
 
 loop-again : tie.Need-loop-again Inv-loop μ-loop
-loop-again c = let l = c .before .before .before .before .before .before .before .loop in
-    let s = c .before .before .before .before .before .before .before .before .before .before .before .before .before in (
+loop-again c =
+    let copied = c .before in
+    let digits = copied .before .before .before in
+    let turn = digits .before .before in
+    let loop = turn .before in
+    let l = loop .loop in
+    let copy = loop .before .before in
+    let lent = copy .before .before in
+    let s = lent .before .before in (
       omega arith,
-      c .before .copy-at .kept .1 .1 .0 ∙ l .inv .1,
-      encoded-more (s .args .digest .now) (l .i) (l .inv .2)
-          (c .before .before .before .before .two-digits .ensures) (c .before .copy-at .ensures) (omega (arith, s .pre)) (omega arith),
+      copied .copy-at .kept .1 .1 .0 ∙ l .inv .1,
+      encoded-more (s .args .digest .now) (l .i) (l .inv .2) (digits .two-digits .ensures) (copied .copy-at .ensures)
+          (omega (arith, s .pre)) (omega arith),
     )
 
 returns : tie.Need-returns Inv-loop μ-loop
-returns c = let l = c .before .loop in let s = c .before .before .before .before .before .before .before in
+returns c =
+    let loop = c .before in
+    let l = loop .loop in
+    let copy = loop .before .before in
+    let lent = copy .before .before in
+    let s = lent .before .before in
     encoded-all (s .args .digest .now) (l .i) (l .inv .2) (omega arith) (s .pre)
 
 pub encoded-spec : {M : Type 1} → statement M

@@ -13,8 +13,11 @@ copy-requires : tie.Need-copy-requires
 copy-requires c κs = search needs
 
 returns : tie.Need-returns
-returns c = let d = c .before .before .before .before .args .digest .now in let size : length d ≡ 20 = search needs in
-    front-copied 8 d (c .before .copy .ensures) (omega arith)
+returns c =
+    let copied = c .before in
+    let d = copied .before .before .before .args .digest .now in
+    let size : length d ≡ 20 = search needs in
+    front-copied 8 d (copied .copy .ensures) (omega arith)
 
 pub first-eight-spec : {M : Type 1} → statement M
 first-eight-spec = tie.close (tie.spec slice-aggregate-copy copy-requires returns)

@@ -11,16 +11,20 @@ refused-hash-requires c κs = search needs
 
 returns : tie.Need-returns
 unfolding hashHashAnswer hashAnswer
-returns c = c .refused-hash .ensures ∙ refused hash-of _ _ _ (row-wrong 16 (c .before .before .before .args .hash .now) _
-    (c .before .if1 .taken)) not-size
+returns c =
+    let first = c .before in
+    let s = first .before .before .args in
+    c .refused-hash .ensures ∙ refused hash-of _ _ _ (row-wrong 16 (s .hash .now) _ (first .if1 .taken)) not-size
 
 md4-of-requires : tie.Need-md4-of-requires
 md4-of-requires c κs = search needs
 
 returns-2 : tie.Need-returns-2
 unfolding hashHashAnswer hashHash hashAnswer
-returns-2 c = answered hash-of _ _ _ (sym (behind 16 (c .before .before .before .args .hash .now) _ (c .before .if1 .left) refl))
-    (c .md4-of .ensures)
+returns-2 c =
+    let first = c .before in
+    let s = first .before .before .args in
+    answered hash-of _ _ _ (sym (behind 16 (s .hash .now) _ (first .if1 .left) refl)) (c .md4-of .ensures)
 
 pub hash-hash-spec : {M : Type 1} → statement M
 hash-hash-spec = tie.close (tie.spec refused-hash-requires returns md4-of-requires returns-2)

@@ -19,10 +19,16 @@ same-length : tie.Need-same-length
 same-length c = search needs
 
 returns : tie.Need-returns
-returns c = let s = c .before .before .before .before .before .before .before .before .before .before .before .before .before .before .before .before in
-    joined (s .args .a .now) (s .args .b .now) (s .args .c .now) (s .args .out .now)
-    (c .before .before .before .before .before .before .before .before .before .before .copy-at .ensures)
-    (c .before .before .before .before .before .before .copy-at2 .ensures) (c .before .before .copy-at3 .ensures) (s .pre)
+returns c =
+    let third = c .before .before in
+    let behind-second = third .before .before in
+    let second = behind-second .before .before in
+    let behind-first = second .before .before in
+    let first = behind-first .before .before in
+    let lent = first .before .before .before in
+    let s = lent .before .before .before in
+    joined (s .args .a .now) (s .args .b .now) (s .args .c .now) (s .args .out .now) (first .copy-at .ensures) (second .copy-at2 .ensures)
+    (third .copy-at3 .ensures) (s .pre)
 
 pub join-spec : {M : Type 1} → statement M
 join-spec =

@@ -7,7 +7,9 @@ md4-requires : tie.Need-md4-requires
 md4-requires c κs = search needs
 
 returns : tie.Need-returns
-returns c = md4-octets _ (c .before .md4 .ensures) (c .before .before .before .pre)
+returns c =
+    let hashed = c .before in
+    md4-octets _ (hashed .md4 .ensures) (hashed .before .before .pre)
 
 pub md4-of-spec : {M : Type 1} → statement M
 md4-of-spec = tie.close (tie.spec md4-requires returns)

@@ -5,6 +5,12 @@ use Rattle.mschap.proofs.Laws.{by-password, behind-password, hash-told,
 use Rattle.mschap.proofs.nt_response.Statement.{statement}
 use Rattle.mschap.proofs.nt_response.Tie as tie
 
+-- the call, from its first step on
+abbrev start : tie.After-shared-slice-known4 → tie.Start
+start p =
+    let second = p .before .before in
+    second .before .before
+
 password-hash-requires : tie.Need-password-hash-requires
 password-hash-requires c κs = search needs
 
@@ -13,10 +19,13 @@ refused-response-requires c κs = search needs
 
 returns : tie.Need-returns
 unfolding ntResponseAnswer passwordHashAnswer responseAnswer
-returns c = let s = c .before .before .before .before .before .before .before .before .args in let n = c .before .if1 .taken in
+returns c =
+    let tested = c .before in
+    let hashed = tested .before .before in
+    let s = start (hashed .before) .args in
+    let n = tested .if1 .taken in
     c .refused-response .ensures ∙ refused response-of _ _ _ (by-password (s .password .now)
-    (challengeRows (s .peer .now) (s .authenticator .now) (s .name .now))
-    (hash-told _ _ (c .before .before .before .password-hash .ensures) .0) n) n
+    (challengeRows (s .peer .now) (s .authenticator .now) (s .name .now)) (hash-told _ _ (hashed .password-hash .ensures) .0) n) n
 
 challenge-hash-requires : tie.Need-challenge-hash-requires
 challenge-hash-requires c κs = search needs
@@ -26,12 +35,15 @@ refused-response-requires-2 c κs = search needs
 
 returns-2 : tie.Need-returns-2
 unfolding ntResponseAnswer passwordHashAnswer challengeHashAnswer responseAnswer
-returns-2 c = let s = c .before .before .before .before .before .before .before .before .before .before .before .args in
+returns-2 c =
+    let tested = c .before in
+    let challenged = tested .before .before in
+    let passed = challenged .before in
+    let hashed = passed .before .before in
+    let s = start (hashed .before) .args in
     c .refused-response2 .ensures ∙ refused response-of _ _ _ (behind-password (s .password .now)
-    (challengeRows (s .peer .now) (s .authenticator .now) (s .name .now))
-    (hash-told _ _ (c .before .before .before .before .before .before .password-hash .ensures) .0)
-    (c .before .before .before .before .if1 .left) (challenge-told _ _ (c .before .before .before .challenge-hash .ensures) .0))
-    (c .before .if2 .taken)
+    (challengeRows (s .peer .now) (s .authenticator .now) (s .name .now)) (hash-told _ _ (hashed .password-hash .ensures) .0)
+    (passed .if1 .left) (challenge-told _ _ (challenged .challenge-hash .ensures) .0)) (tested .if2 .taken)
 
 slice-aggregate-response-of : tie.Need-slice-aggregate-response-of
 slice-aggregate-response-of c = search needs
@@ -44,11 +56,17 @@ response-of-requires c κs = search needs
 
 returns-3 : tie.Need-returns-3
 unfolding ntResponseAnswer passwordHashAnswer challengeHashAnswer responseAnswer
-returns-3 c = let s = c .before .before .before .before .before .before .before .before .before .before .before .before .before .before .before .args in
-    let z = c .before .before .before .before .before .before .before .before .if1 .left in
-    let z′ = c .before .before .before .before .before .if2 .left in
-    let h = hash-told _ _ (c .before .before .before .before .before .before .before .before .before .before .password-hash .ensures) in
-    let x = challenge-told _ _ (c .before .before .before .before .before .before .before .challenge-hash .ensures) in
+returns-3 c =
+    let lent = c .before .before in
+    let tested = lent .before .before .before in
+    let challenged = tested .before .before in
+    let passed = challenged .before in
+    let hashed = passed .before .before in
+    let s = start (hashed .before) .args in
+    let z = passed .if1 .left in
+    let z′ = tested .if2 .left in
+    let h = hash-told _ _ (hashed .password-hash .ensures) in
+    let x = challenge-told _ _ (challenged .challenge-hash .ensures) in
     answered response-of _ _ _ (sym (behind-password (s .password .now) (challengeRows (s .peer .now) (s .authenticator .now) (s .name .now))
     (h .0) z (x .0)) ∙ z′) (response-made _ _ _ _ (h .1 z) (x .1 z′) (c .response-of .ensures))
 

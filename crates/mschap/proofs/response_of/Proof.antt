@@ -15,14 +15,16 @@ array-share-prefix-key : tie.Need-array-share-prefix-key
 array-share-prefix-key c = search needs
 
 slice-aggregate-encipher : tie.Need-slice-aggregate-encipher
-slice-aggregate-encipher c = count 7 (c .before .before .copy .last .1 .0) (omega (arith, c .before .before .copy .kept .1 .0))
+slice-aggregate-encipher c =
+    let copied = c .before .before in
+    count 7 (copied .copy .last .1 .0) (omega (arith, copied .copy .kept .1 .0))
 
 encipher-requires : tie.Need-encipher-requires
-encipher-requires c κs = (
-  length-take-le 7 (c .before .before .copy .last .1 .0)
-      (omega (arith, c .before .before .copy .kept .1 .0)),
-  c .before .before .before .before .before .before .pre .0,
-)
+encipher-requires c κs =
+    let copied = c .before .before in
+    let key = copied .before in
+    let s = key .before .before .before in
+    (length-take-le 7 (copied .copy .last .1 .0) (omega (arith, copied .copy .kept .1 .0)), s .pre .0)
 
 sub-encipher : tie.Need-sub-encipher
 sub-encipher c = search needs
@@ -64,12 +66,17 @@ join-requires : tie.Need-join-requires
 join-requires c κs = search needs
 
 returns : tie.Need-returns
-returns c = response-joined _ _
-    (c .before .before .before .before .before .before .before .before .before .before .before .before .before .before .before .copy .ensures)
-    (c .before .before .before .before .before .before .before .before .before .before .before .before .encipher .ensures)
-    (c .before .before .before .before .before .before .before .before .before .encipher2 .ensures)
-    (c .before .before .before .before .before .before .encipher3 .ensures) (c .before .join .ensures)
-    (c .before .before .before .before .before .before .before .before .before .before .before .before .before .before .before .before .before .before .before .pre .1)
+returns c =
+    let joined = c .before in
+    let lent = joined .before .before .before in
+    let third = lent .before .before in
+    let second = third .before .before .before in
+    let first = second .before .before .before in
+    let copied = first .before .before .before in
+    let key = copied .before in
+    let s = key .before .before .before in
+    response-joined _ _ (copied .copy .ensures) (first .encipher .ensures) (second .encipher2 .ensures) (third .encipher3 .ensures)
+    (joined .join .ensures) (s .pre .1)
 
 pub response-of-spec : {M : Type 1} → statement M
 response-of-spec =

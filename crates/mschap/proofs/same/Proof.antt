@@ -32,14 +32,20 @@ loop-less : tie.Need-loop-less Inv-loop μ-loop
 loop-less c = search needs
 
 loop-again : tie.Need-loop-again Inv-loop μ-loop
-loop-again c = let l = c .before .before .before .loop in let s = c .before .before .before .before in (
-  omega arith,
-  compared (s .args .a .now) (s .args .b .now) (l .difference) (l .i) (l .inv .1) (omega (arith, s .pre .0))
-      (omega (arith, s .pre .1)),
-)
+loop-again c =
+    let loop = c .before .before .before in
+    let l = loop .loop in
+    let s = loop .before in (
+      omega arith,
+      compared (s .args .a .now) (s .args .b .now) (l .difference) (l .i) (l .inv .1) (omega (arith, s .pre .0))
+          (omega (arith, s .pre .1)),
+    )
 
 returns : tie.Need-returns Inv-loop μ-loop
-returns c = let l = c .before .loop in let s = c .before .before .args in
+returns c =
+    let loop = c .before in
+    let l = loop .loop in
+    let s = loop .before .args in
     compared-all (s .a .now) (s .b .now) (l .difference) (l .i) (s .n) (l .inv .1) (omega arith)
 
 pub same-spec : {M : Type 1} → statement M

@@ -21,16 +21,25 @@ array-share-prefix-text : tie.Need-array-share-prefix-text
 array-share-prefix-text c = search needs
 
 slice-aggregate-sha1 : tie.Need-slice-aggregate-sha1
-slice-aggregate-sha1 c = let j = c .before .before .join in
-    count _ (j .last .1 .1 .1 .0) (omega (arith, j .kept .1 .1 .1 .0, c .before .before .before .before .before .before .before .pre))
+slice-aggregate-sha1 c =
+    let joined = c .before .before in
+    let j = joined .join in
+    let text = joined .before in
+    let lent = text .before in
+    let s = lent .before .before .before in
+    count _ (j .last .1 .1 .1 .0) (omega (arith, j .kept .1 .1 .1 .0, s .pre))
 
 sha1-requires : tie.Need-sha1-requires
 sha1-requires c κs = search needs
 
 returns : tie.Need-returns
-returns c = let s = c .before .before .before .before .before .before .before .before .before in
-    sha1-octets (s .args .a .now) (s .args .b .now) (s .args .c .now) (replicate 288 0) (c .before .before .before .before .join .ensures)
-    (c .before .sha1 .ensures) (s .pre)
+returns c =
+    let hashed = c .before in
+    let joined = hashed .before .before .before in
+    let text = joined .before in
+    let lent = text .before in
+    let s = lent .before .before .before in
+    sha1-octets (s .args .a .now) (s .args .b .now) (s .args .c .now) (replicate 288 0) (joined .join .ensures) (hashed .sha1 .ensures) (s .pre)
 
 pub sha1-of-spec : {M : Type 1} → statement M
 sha1-of-spec =

@@ -34,8 +34,11 @@ encoded-requires c κs = search needs
 
 returns : tie.Need-returns
 unfolding magic1 magic2
-returns c = signed _ _ _ _ _ (c .before .before .before .before .before .before .before .before .md4-of .ensures)
-    (c .before .before .before .before .before .sha1-of .ensures) (c .before .before .sha1-of2 .ensures) (c .encoded .ensures) refl refl
+returns c =
+    let last = c .before .before in
+    let digest = last .before .before .before in
+    let hashed = digest .before .before .before in
+    signed _ _ _ _ _ (hashed .md4-of .ensures) (digest .sha1-of .ensures) (last .sha1-of2 .ensures) (c .encoded .ensures) refl refl
 
 pub signature-spec : {M : Type 1} → statement M
 signature-spec =
