@@ -63,6 +63,10 @@ value-laid {v₁} peer response e₁ e₂ hp hr =
     let laid : v₁ ≡ (peer ++ replicate 8 0) ++ replicate 25 0 = e₁ ∙ rw (all, hp, append-assoc) in
     append-more (peer ++ replicate 8 0) response 24 25 laid e₂ (sym front) (omega arith) ∙ rw hr
 
+-- an order of numbers that are equal to others
+pub ordered : {a a′ b b′ : ℕ} → a ≡ a′ → b ≡ b′ → a ≤ b → a′ ≤ b′
+ordered ea eb h = omega arith
+
 -- a packet's tests, one by one
 pub read-short : {least : ℕ} (kind : Kind) (packet : List ℕ) → least ≡ leastLength kind → length packet < least
     → shape ≡ readNumber kind packet
@@ -97,8 +101,8 @@ on-refused (suc n) result refused h = refl
 pub within : {number : ℕ} (kind : Kind) (packet : List ℕ) → number ≡ readNumber kind packet → number ≡ done
     → (leastLength kind ≤ lengthField packet) × (lengthField packet ≤ length packet)
 within kind packet e h =
-    let sound = read-done kind packet (sym e ∙ h) in
-    (sound .least, sound .inside)
+    let shaped = read-done kind packet (sym e ∙ h) .0 in
+    (shaped .least, shaped .inside)
 
 -- what is read of a Challenge
 pub challenge-refused : {number : ℕ} (packet : List ℕ) → number ≡ readNumber kinds.Challenge packet → (number ≡ done → ⊥)

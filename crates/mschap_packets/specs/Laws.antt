@@ -30,18 +30,25 @@ pub read-least : {least n : ℕ} (kind : Kind) (packet : List ℕ) → least ≡
 unfolding readNumber
 read-least kind packet el en h = simp (lt-ltb (lengthField packet) (leastLength kind) (omega arith), earlier)
 
--- a packet of right shape: its name is too long, or not
-pub read-name : {least code size n : ℕ} {set t : Bool} (kind : Kind) (packet : List ℕ) → least ≡ leastLength kind → least ≤ length packet
-    → code ≡ codeOf kind → getD packet 0 0 ≡ code → size ≡ valueSize kind → getD packet 4 0 ≡ size
-    → n ≡ lengthField packet → least ≤ n → n ≤ length packet → set ≡ anySet (reserved kind packet) → set ≡ false
-    → ltb longestName (n - least) ≡ t → pick t 3 0 ≡ readNumber kind packet
+-- what holds of a packet to which no row of 1 applies
+pub record Shaped (kind : Kind) (packet : List ℕ) : Type 0 where
+  pub code : getD packet 0 0 ≡ codeOf kind
+  pub size : getD packet 4 0 ≡ valueSize kind
+  pub least : leastLength kind ≤ lengthField packet
+  pub inside : lengthField packet ≤ length packet
+  pub clear : anySet (reserved kind packet) ≡ false
+
+-- its name is too long, or not
+pub read-name : {least n : ℕ} {t : Bool} (kind : Kind) (packet : List ℕ) → Shaped kind packet → least ≡ leastLength kind
+    → n ≡ lengthField packet → ltb longestName (n - least) ≡ t → pick t size done ≡ readNumber kind packet
 unfolding readNumber
-read-name kind packet el h ec hc es hs en hn hp er hr ht =
-    let code = eq-eqb (getD packet 0 0) (codeOf kind) (hc ∙ ec) in
-    let size = eq-eqb (getD packet 4 0) (valueSize kind) (hs ∙ es) in
-    let least = le-ltb (lengthField packet) (leastLength kind) (omega arith) in
-    let inside = le-ltb (length packet) (lengthField packet) (omega arith) in
-    rw (le-ltb (length packet) (leastLength kind) (omega arith), code, size, least, inside, sym er ∙ hr, ← en, ← el, ht)
+read-name kind packet shaped el en ht =
+    let long = le-ltb (length packet) (leastLength kind) (omega (arith, shaped .least, shaped .inside)) in
+    let code = eq-eqb (getD packet 0 0) (codeOf kind) (shaped .code) in
+    let size = eq-eqb (getD packet 4 0) (valueSize kind) (shaped .size) in
+    let least = le-ltb (lengthField packet) (leastLength kind) (shaped .least) in
+    let inside = le-ltb (length packet) (lengthField packet) (shaped .inside) in
+    rw (long, code, size, least, inside, shaped .clear, ← en, ← el, ht)
 
 -- where the number is 0, no row of another number applies
 abbrev NoneOf : List (ℕ × Bool) → Type 0
@@ -60,30 +67,24 @@ neither true b h = (h, cc)
 neither false b h = (refl, h)
 
 -- what holds of a packet that is read
-pub record Sound (kind : Kind) (packet : List ℕ) : Type 0 where
-  pub code : getD packet 0 0 ≡ codeOf kind
-  pub size : getD packet 4 0 ≡ valueSize kind
-  pub least : leastLength kind ≤ lengthField packet
-  pub inside : lengthField packet ≤ length packet
-  pub clear : anySet (reserved kind packet) ≡ false
-  pub short : lengthField packet - leastLength kind ≤ longestName
-
-pub read-done : (kind : Kind) (packet : List ℕ) → readNumber kind packet ≡ done → Sound kind packet
+pub read-done : (kind : Kind) (packet : List ℕ) → readNumber kind packet ≡ done
+    → Shaped kind packet × (lengthField packet - leastLength kind ≤ longestName)
 unfolding readNumber
 read-done kind packet h =
     let coded = none-of (readRows kind packet) h .1 in
     let sized = coded .1 in
     let least = sized .1 in
     let inside = least .1 in
-    let clear = inside .1 in
-    record {
-      code = eqb-true _ _ (not-false _ (coded .0));
-      size = eqb-true _ _ (not-false _ (sized .0));
-      least = ltb-false _ _ (least .0);
-      inside = ltb-false _ _ (inside .0);
-      clear = clear .0;
-      short = ltb-false _ _ (clear .1 .0);
-    }
+    let clear = inside .1 in (
+      record {
+        code = eqb-true _ _ (not-false _ (coded .0));
+        size = eqb-true _ _ (not-false _ (sized .0));
+        least = ltb-false _ _ (least .0);
+        inside = ltb-false _ _ (inside .0);
+        clear = clear .0;
+      },
+      ltb-false _ _ (clear .1 .0),
+    )
 
 -- how long a packet is
 pub length-packet : (kind : Kind) (identifier : ℕ) (value name : List ℕ) → length value ≡ valueSize kind
@@ -128,8 +129,8 @@ module _ (kind : Kind) (identifier : ℕ) (value name rest packet : List ℕ) (e
       let n = length-named in
       let f = fixed-fields in
       let short = le-ltb longestName (lengthField packet - leastLength kind) (omega arith) in
-      sym
-      (read-name kind packet refl (omega arith) refl (f .0) refl (f .2) refl (omega arith) (omega arith) refl hr short)
+      let shaped : Shaped kind packet = record { code = f .0; size = f .2; least = omega arith; inside = omega arith; clear = hr } in
+      sym (read-name kind packet shaped refl refl short)
 
   -- .. and so is its name
   name-back : length value ≡ valueSize kind → readNumber kind packet ≡ done → nameOf kind packet ≡ name
@@ -228,12 +229,12 @@ abbrev pub Octets : List ℕ → Type 0
 Octets l = (i : ℕ) → getD l i 0 < 256
 
 -- a Response's value is made of its parts
-value-again : (packet : List ℕ) → Sound kinds.Response packet
+value-again : (packet : List ℕ) → Shaped kinds.Response packet
     → part headerLength 49 packet ≡ responseValue (part headerLength 16 packet) (part 29 24 packet)
 unfolding responseValue
-value-again packet sound =
-    let long : 54 ≤ length packet = omega (arith, sound .least, sound .inside) in
-    let clear = neither _ _ (sym (set-append (part 21 8 packet) (part 53 1 packet)) ∙ sound .clear) in
+value-again packet shaped =
+    let long : 54 ≤ length packet = omega (arith, shaped .least, shaped .inside) in
+    let clear = neither _ _ (sym (set-append (part 21 8 packet) (part 53 1 packet)) ∙ shaped .clear) in
     let eight : part 21 8 packet ≡ replicate 8 0 = zeros _ (clear .0) ∙ rw (length-part 21 8 packet (omega arith)) in
     let one : part 53 1 packet ≡ replicate 1 0 = zeros _ (clear .1) ∙ rw (length-part 53 1 packet (omega arith)) in
     let cut : part 5 49 packet ≡ part 5 16 packet ++ part 21 8 packet ++ part 29 24 packet ++ part 53 1 packet =
@@ -242,24 +243,24 @@ value-again packet sound =
     cut ∙ rw (eight, one)
 
 -- a header is made of its fields
-header-again : (kind : Kind) (packet : List ℕ) → Octets packet → Sound kind packet
+header-again : (kind : Kind) (packet : List ℕ) → Octets packet → Shaped kind packet
     → take headerLength packet ≡ header kind (getD packet 1 0) (lengthField packet)
 unfolding header
-header-again kind packet octets sound =
-    let long : 5 ≤ length packet = omega (arith, sound .least, sound .inside) in
+header-again kind packet octets shaped =
+    let long : 5 ≤ length packet = omega (arith, shaped .least, shaped .inside) in
     let high : lengthField packet / 256 % 256 ≡ getD packet 2 0 = omega (arith, octets 2, octets 3) in
     let low : lengthField packet / 1 % 256 ≡ getD packet 3 0 = omega (arith, octets 2, octets 3) in
     let more : (i : ℕ) → i < 5 → take (suc i) packet ≡ take i packet ++ (getD packet i 0 ∷ []) = λ i h. take-suc packet i 0 (omega arith) in
-    rw (high, low, ← sound .code, ← sound .size, more 4 (omega arith), more 3 (omega arith), more 2 (omega arith), more 1 (omega arith), more 0 (omega arith))
+    rw (high, low, ← shaped .code, ← shaped .size, more 4 (omega arith), more 3 (omega arith), more 2 (omega arith), more 1 (omega arith), more 0 (omega arith))
 
 -- a packet of octets that is read is, up to the length that it names, the packet that is made of its identifier, value and name
 pub read-again : (kind : Kind) (packet : List ℕ) → Octets packet → readNumber kind packet ≡ done
     → take (lengthField packet) packet ≡ packetOf kind (getD packet 1 0) (part headerLength (valueSize kind) packet) (nameOf kind packet)
 unfolding packetOf nameOf
 read-again kind packet octets h =
-    let sound = read-done kind packet h in
-    let least = sound .least in
-    let inside = sound .inside in
+    let shaped = read-done kind packet h .0 in
+    let least = shaped .least in
+    let inside = shaped .inside in
     let size : ℕ = valueSize kind in
     let rest : ℕ = lengthField packet - leastLength kind in
     let named : length (part (5 + size) rest packet) ≡ rest = length-part (5 + size) rest packet (omega arith) in
@@ -267,7 +268,7 @@ read-again kind packet octets h =
     let split : take (5 + (size + rest)) packet ≡ take 5 packet ++ (part 5 size packet ++ part (5 + size) rest packet) =
     take-add 5 (size + rest) packet ∙ rw (take-add size rest (drop 5 packet), drop-drop size 5 packet) in
     let all : leastLength kind + length (part (5 + size) rest packet) ≡ lengthField packet = omega arith in
-    ap (λ (n : ℕ). take n packet) whole ∙ split ∙ rw (h, header-again kind packet octets sound, all, append-assoc)
+    ap (λ (n : ℕ). take n packet) whole ∙ split ∙ rw (h, header-again kind packet octets shaped, all, append-assoc)
 
 -- .. and that is written where there is room for it
 write-again : {wrongValue : Bool} (kind : Kind) (identifier : ℕ) (value packet out : List ℕ) → Octets packet
@@ -278,10 +279,10 @@ write-again : {wrongValue : Bool} (kind : Kind) (identifier : ℕ) (value packet
     ≡ written (take (lengthField packet) packet) out)
 unfolding writeNumber writeOut nameOf
 write-again kind identifier value packet out octets h ei ev right room =
-    let sound = read-done kind packet h in
-    let least = sound .least in
-    let inside = sound .inside in
-    let short = sound .short in
+    let shaped = read-done kind packet h .0 in
+    let least = shaped .least in
+    let inside = shaped .inside in
+    let short = read-done kind packet h .1 in
     let rest : ℕ = lengthField packet - leastLength kind in
     let named : length (nameOf kind packet) ≡ rest = rw h (length-part (leastLength kind) rest packet (omega arith)) in
     let made : packetOf kind identifier value (nameOf kind packet) ≡ take (lengthField packet) packet =
@@ -306,8 +307,8 @@ pub challenge-writes-again : (identifier : ℕ) (challenge packet out : List ℕ
 unfolding challengeRead challengeNumber challengeOut
 challenge-writes-again identifier challenge packet out octets e room =
     let r = given (λ (r : Challenge). r .answer) (readNumber kinds.Challenge packet) _ _ refl e refl in
-    let sound = read-done kinds.Challenge packet (r .0) in
-    let long : 21 ≤ length packet = omega (arith, sound .least, sound .inside) in
+    let shaped = read-done kinds.Challenge packet (r .0) .0 in
+    let long : 21 ≤ length packet = omega (arith, shaped .least, shaped .inside) in
     let id : getD packet 1 0 ≡ identifier = ap (λ (r : Challenge). r .identifier) (r .1) in
     let value : part 5 16 packet ≡ challenge = ap (λ (r : Challenge). r .value) (r .1) in
     let size : length challenge ≡ 16 = ap length (sym value) ∙ length-part 5 16 packet (omega arith) in
@@ -322,14 +323,14 @@ pub response-writes-again : (identifier : ℕ) (peer response packet out : List 
 unfolding responseRead responseNumber responseOut
 response-writes-again identifier peer response packet out octets e room =
     let r = given (λ (r : Response). r .answer) (readNumber kinds.Response packet) _ _ refl e refl in
-    let sound = read-done kinds.Response packet (r .0) in
-    let long : 54 ≤ length packet = omega (arith, sound .least, sound .inside) in
+    let shaped = read-done kinds.Response packet (r .0) .0 in
+    let long : 54 ≤ length packet = omega (arith, shaped .least, shaped .inside) in
     let id : getD packet 1 0 ≡ identifier = ap (λ (r : Response). r .identifier) (r .1) in
     let first : part 5 16 packet ≡ peer = ap (λ (r : Response). r .«peer_challenge») (r .1) in
     let second : part 29 24 packet ≡ response = ap (λ (r : Response). r .«nt_response») (r .1) in
     let l₁ : length peer ≡ 16 = ap length (sym first) ∙ length-part 5 16 packet (omega arith) in
     let l₂ : length response ≡ 24 = ap length (sym second) ∙ length-part 29 24 packet (omega arith) in
-    let value : part 5 49 packet ≡ responseValue peer response = value-again packet sound ∙ rw (first, second) in
+    let value : part 5 49 packet ≡ responseValue peer response = value-again packet shaped ∙ rw (first, second) in
     let right : wrong challengeLength peer || wrong responseLength response ≡ false =
     rw (eq-eqb (length peer) 16 l₁, eq-eqb (length response) 24 l₂) in
     write-again kinds.Response identifier (responseValue peer response) packet out octets (r .0) id value right room
@@ -374,7 +375,7 @@ module _ (packet padding : List ℕ) (headed : headerLength ≤ length packet) (
           sym (read-least kind (packet ++ padding) refl (sym length-padded) small) ∙ read-least kind packet refl refl small
 
   valued : (kind : Kind) → readNumber kind packet ≡ done → leastLength kind ≤ lengthField packet
-  valued kind h = read-done kind packet h .least
+  valued kind h = read-done kind packet h .0 .least
 
   pub name-padded : (kind : Kind) → nameOf kind (packet ++ padding) ≡ nameOf kind packet
   unfolding nameOf

@@ -20,7 +20,11 @@ copy-requires : tie.Need-copy-requires
 copy-requires c κs = search needs
 
 returns : tie.Need-returns
-returns c = let s = c .before .before .before .before .before in part-copied 5 16 (now (s .args .packet)) (c .before .copy .ensures) (s .pre)
+returns c =
+    let copied = c .before in
+    let lent = copied .before .before in
+    let s = lent .before .before in
+    part-copied 5 16 (now (s .args .packet)) (copied .copy .ensures) (s .pre)
 
 pub challenge-in-spec : {M : Type 1} → statement M
 challenge-in-spec =

@@ -1,9 +1,51 @@
+use mathlib.Core.Path.{refl, sym, _∙_}
 use borrow.Author.Tests.{lt-ltb, le-ltb}
 use borrow.Author.Needs.{needs}
-use Rattle.mschap_packets.proofs.Laws.{read-short, read-code, read-size, read-beyond, read-reserved}
-use Rattle.mschap_packets.specs.Laws.{read-least, read-name}
+use Rattle.mschap_packets.proofs.Laws.{ordered, read-short, read-code, read-size, read-beyond, read-reserved}
+use Rattle.mschap_packets.specs.Laws.{Shaped, read-least, read-name}
 use Rattle.mschap_packets.proofs.read_number.Statement.{statement}
 use Rattle.mschap_packets.proofs.read_number.Tie as tie
+
+-- the places of the call, each from a later one
+abbrev length-at : tie.Else6 → tie.After-joined
+length-at p =
+    let inside = p .before .before in
+    inside .before .before
+
+abbrev size-at : tie.After-joined → tie.After-value-size
+size-at p =
+    let sized = p .before .before .before in
+    sized .before
+
+abbrev code-at : tie.After-value-size → tie.After-code
+code-at p = p .before .before .before
+
+abbrev least-at : tie.After-code → tie.After-least-length
+least-at p = p .before .before .before
+
+abbrev start : tie.After-least-length → tie.Start
+start p = p .before .before
+
+-- what holds where all rows of 1 are passed
+shaped : (p : tie.Else6) →
+    let s = start (least-at (code-at (size-at (length-at p)))) .args in
+    Shaped (s .kind) (s .packet .now)
+shaped p =
+    let set = p .before in
+    let inside = set .before in
+    let length = length-at p in
+    let sized = length .before .before .before in
+    let size = sized .before in
+    let coded = size .before .before in
+    let code = coded .before in
+    let least = least-at code in
+    record {
+      code = coded .if2 .left ∙ code .code .ensures;
+      size = sized .if3 .left ∙ size .value-size .ensures .0;
+      least = ordered (least .least-length .ensures .0) (length .joined .ensures) (inside .before .if4 .left);
+      inside = ordered (length .joined .ensures) refl (inside .if5 .left);
+      clear = sym (set .reserved-set .ensures) ∙ p .if6 .left;
+    }
 
 least-length-requires : tie.Need-least-length-requires
 least-length-requires c κs = search needs
@@ -39,7 +81,10 @@ joined-requires : tie.Need-joined-requires
 joined-requires c κs = search needs
 
 returns-4 : tie.Need-returns-4
-returns-4 c = read-least _ _ (c .before .before .before .before .before .before .before .before .before .before .before .least-length .ensures .0) (c .before .joined .ensures) (c .if4 .taken)
+returns-4 c =
+    let length = c .before in
+    let least = least-at (code-at (size-at length)) in
+    read-least _ _ (least .least-length .ensures .0) (length .joined .ensures) (c .if4 .taken)
 
 returns-5 : tie.Need-returns-5
 returns-5 c = read-beyond _ _ (c .before .before .joined .ensures) (c .if5 .taken)
@@ -51,10 +96,16 @@ returns-6 : tie.Need-returns-6
 returns-6 c = read-reserved _ _ (c .before .reserved-set .ensures) (c .if6 .taken)
 
 returns-7 : tie.Need-returns-7
-returns-7 c = read-name _ _ (c .before .before .before .before .before .before .before .before .before .before .before .before .before .before .before .least-length .ensures .0) (c .before .before .before .before .before .before .before .before .before .before .before .before .before .before .if1 .left) (c .before .before .before .before .before .before .before .before .before .before .before .before .code .ensures) (c .before .before .before .before .before .before .before .before .before .before .before .if2 .left) (c .before .before .before .before .before .before .before .before .before .value-size .ensures .0) (c .before .before .before .before .before .before .before .before .if3 .left) (c .before .before .before .before .before .joined .ensures) (c .before .before .before .before .if4 .left) (c .before .before .before .if5 .left) (c .before .before .reserved-set .ensures) (c .before .if6 .left) (lt-ltb _ _ (c .if7 .taken))
+returns-7 c =
+    let length = length-at (c .before) in
+    let least = least-at (code-at (size-at length)) in
+    read-name _ _ (shaped (c .before)) (least .least-length .ensures .0) (length .joined .ensures) (lt-ltb _ _ (c .if7 .taken))
 
 returns-8 : tie.Need-returns-8
-returns-8 c = read-name _ _ (c .before .before .before .before .before .before .before .before .before .before .before .before .before .before .before .least-length .ensures .0) (c .before .before .before .before .before .before .before .before .before .before .before .before .before .before .if1 .left) (c .before .before .before .before .before .before .before .before .before .before .before .before .code .ensures) (c .before .before .before .before .before .before .before .before .before .before .before .if2 .left) (c .before .before .before .before .before .before .before .before .before .value-size .ensures .0) (c .before .before .before .before .before .before .before .before .if3 .left) (c .before .before .before .before .before .joined .ensures) (c .before .before .before .before .if4 .left) (c .before .before .before .if5 .left) (c .before .before .reserved-set .ensures) (c .before .if6 .left) (le-ltb _ _ (c .if7 .left))
+returns-8 c =
+    let length = length-at (c .before) in
+    let least = least-at (code-at (size-at length)) in
+    read-name _ _ (shaped (c .before)) (least .least-length .ensures .0) (length .joined .ensures) (le-ltb _ _ (c .if7 .left))
 
 pub read-number-spec : {M : Type 1} → statement M
 read-number-spec =

@@ -11,16 +11,28 @@ returns : tie.Need-returns
 returns c = response-refused _ (c .before .read-number .ensures) (c .if1 .taken)
 
 shared-slice-read-t8 : tie.Need-shared-slice-read-t8
-shared-slice-read-t8 c = let w = within _ _ (c .before .before .read-number .ensures) (c .before .if1 .left) in omega (arith, w .0, w .1)
+shared-slice-read-t8 c =
+    let tested = c .before in
+    let w = within _ _ (tested .before .read-number .ensures) (tested .if1 .left) in
+    omega (arith, w .0, w .1)
 
 challenge-in-requires : tie.Need-challenge-in-requires
-challenge-in-requires c κs = let w = within _ _ (c .before .before .read-number .ensures) (c .before .if1 .left) in omega (arith, w .0, w .1)
+challenge-in-requires c κs =
+    let tested = c .before in
+    let w = within _ _ (tested .before .read-number .ensures) (tested .if1 .left) in
+    omega (arith, w .0, w .1)
 
 response-in-requires : tie.Need-response-in-requires
-response-in-requires c κs = let w = within _ _ (c .before .before .before .read-number .ensures) (c .before .before .if1 .left) in omega (arith, w .0, w .1)
+response-in-requires c κs =
+    let tested = c .before .before in
+    let w = within _ _ (tested .before .read-number .ensures) (tested .if1 .left) in
+    omega (arith, w .0, w .1)
 
 returns-2 : tie.Need-returns-2
-returns-2 c = response-done _ (c .before .before .before .before .read-number .ensures) (c .before .before .before .if1 .left) (c .before .challenge-in .ensures) (c .response-in .ensures)
+returns-2 c =
+    let challenge = c .before in
+    let tested = challenge .before .before in
+    response-done _ (tested .before .read-number .ensures) (tested .if1 .left) (challenge .challenge-in .ensures) (c .response-in .ensures)
 
 pub read-response-spec : {M : Type 1} → statement M
 read-response-spec =

@@ -40,7 +40,10 @@ returns : tie.Need-returns
 returns c = search needs
 
 returns-2 : tie.Need-returns-2
-returns-2 c = reserved-two _ _ (c .before .before .before .before .enum-told2 .given .1) (c .before .before .any-set .ensures) (c .any-set2 .ensures)
+returns-2 c =
+    let first = c .before .before in
+    let told = first .before .before in
+    reserved-two _ _ (told .enum-told2 .given .1) (first .any-set .ensures) (c .any-set2 .ensures)
 
 pub reserved-set-spec : {M : Type 1} → statement M
 reserved-set-spec =

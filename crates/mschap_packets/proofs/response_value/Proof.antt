@@ -16,7 +16,12 @@ copy-at-requires : tie.Need-copy-at-requires
 copy-at-requires c κs = search needs
 
 returns : tie.Need-returns
-returns c = let s = c .before .before .before .before .before .before .before .before in value-laid _ _ (c .before .before .before .before .copy .ensures) (c .before .copy-at .ensures) (s .pre .0) (s .pre .1)
+returns c =
+    let second = c .before in
+    let first = second .before .before .before in
+    let value = first .before in
+    let s = value .before .before .before in
+    value-laid _ _ (first .copy .ensures) (second .copy-at .ensures) (s .pre .0) (s .pre .1)
 
 pub response-value-spec : {M : Type 1} → statement M
 response-value-spec =

@@ -3,6 +3,10 @@ use Rattle.mschap_packets.proofs.Laws.{long-name, no-room, packet-writt
 use Rattle.mschap_packets.proofs.write.Statement.{statement}
 use Rattle.mschap_packets.proofs.write.Tie as tie
 
+-- the call, from its first test on
+abbrev start : tie.After-slice-known → tie.Start
+start p = p .before .before .before
+
 returns : tie.Need-returns
 returns c = long-name _ _ _ (c .if1 .taken)
 
@@ -13,7 +17,10 @@ add-length : tie.Need-add-length
 add-length c = search needs
 
 returns-2 : tie.Need-returns-2
-returns-2 c = no-room _ _ _ _ _ (c .before .before .before .before .before .before .pre) (c .before .before .if1 .left) (c .before .least-length .ensures .0) (c .if2 .taken)
+returns-2 c =
+    let least = c .before in
+    let named = least .before in
+    no-room _ _ _ _ _ (start (named .before) .pre) (named .if1 .left) (least .least-length .ensures .0) (c .if2 .taken)
 
 header-requires : tie.Need-header-requires
 header-requires c κs = search needs
@@ -34,7 +41,18 @@ same-length : tie.Need-same-length
 same-length c = search needs
 
 returns-3 : tie.Need-returns-3
-returns-3 c = packet-written _ _ _ _ _ (c .before .before .before .before .before .before .before .before .before .before .before .before .before .before .before .before .before .before .before .before .pre) (c .before .before .before .before .before .before .before .before .before .before .before .before .before .before .before .before .if1 .left) (c .before .before .before .before .before .before .before .before .before .before .before .before .before .before .before .least-length .ensures .0) (c .before .before .before .before .before .before .before .before .before .before .before .before .before .before .if2 .left) (c .before .before .before .before .before .before .before .before .before .before .before .before .before .header .ensures) (c .before .before .before .before .before .before .before .before .before .before .copy .ensures) (c .before .before .before .before .before .before .copy-at .ensures) (c .before .before .copy-at2 .ensures)
+returns-3 c =
+    let third = c .before .before in
+    let behind-second = third .before .before in
+    let second = behind-second .before .before in
+    let behind-first = second .before .before in
+    let first = behind-first .before .before in
+    let head = first .before .before .before in
+    let roomy = head .before in
+    let least = roomy .before in
+    let named = least .before in
+    packet-written _ _ _ _ _ (start (named .before) .pre) (named .if1 .left) (least .least-length .ensures .0) (roomy .if2 .left)
+    (head .header .ensures) (first .copy .ensures) (second .copy-at .ensures) (third .copy-at2 .ensures)
 
 pub write-spec : {M : Type 1} → statement M
 write-spec =

@@ -13,7 +13,10 @@ same-length : tie.Need-same-length
 same-length c = search needs
 
 returns-2 : tie.Need-returns-2
-returns-2 c = challenge-passed _ _ _ _ (c .before .before .before .before .if1 .left) (c .before .before .write .ensures)
+returns-2 c =
+    let written = c .before .before in
+    let sized = written .before .before in
+    challenge-passed _ _ _ _ (sized .if1 .left) (written .write .ensures)
 
 pub write-challenge-spec : {M : Type 1} → statement M
 write-challenge-spec = tie.close (tie.spec returns write-requires same-length returns-2)

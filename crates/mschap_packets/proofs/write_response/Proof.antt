@@ -22,7 +22,11 @@ same-length : tie.Need-same-length
 same-length c = search needs
 
 returns-3 : tie.Need-returns-3
-returns-3 c = response-passed _ _ _ _ _ (c .before .before .before .before .before .before .before .if1 .left) (c .before .before .before .before .before .before .if2 .left) (c .before .before .before .before .before .response-value .ensures) (c .before .before .write .ensures)
+returns-3 c =
+    let written = c .before .before in
+    let value = written .before .before .before in
+    let sized = value .before in
+    response-passed _ _ _ _ _ (sized .before .if1 .left) (sized .if2 .left) (value .response-value .ensures) (written .write .ensures)
 
 pub write-response-spec : {M : Type 1} → statement M
 write-response-spec =
