@@ -16,7 +16,7 @@ use Rattle.mschap_packets.specs.declared.Kind.the-variants as kinds
 use Rattle.mschap_packets.specs.declared.Challenge.{Challenge}
 use Rattle.mschap_packets.specs.declared.Response.{Response}
 use Rattle.mschap_packets.specs.Packet.{longestName, codeOf, valueSize, leastLength, header, packetOf, responseValue, part, lengthField, reserved, anySet, readNumber, challengeRead, responseRead, nameOf, nameAt, onward, writeNumber, writeOut, challengeNumber, challengeOut, responseNumber, responseOut}
-use Rattle.mschap_packets.specs.Laws.{earlier, read-done, length-packet, set-append}
+use Rattle.mschap_packets.specs.Laws.{earlier, length-packet, set-append}
 
 -- octets looked at one by one: one that is not zero, the next, the end
 pub set-found : (l : List ℕ) (i : ℕ) → anySet l ≡ anySet (drop i l) → (getD l i 0 ≡ 0 → ⊥) → i < length l → true ≡ anySet l
@@ -96,13 +96,6 @@ read-reserved kind packet e h = simp (sym e ∙ h, earlier)
 on-refused : {A : Type 0} (n : ℕ) (result refused : A) → (n ≡ done → ⊥) → onDone n result refused ≡ refused
 on-refused zero result refused h = absurd (h refl)
 on-refused (suc n) result refused h = refl
-
--- a packet that is read has room for its value, and its length lies in the slice
-pub within : {number : ℕ} (kind : Kind) (packet : List ℕ) → number ≡ readNumber kind packet → number ≡ done
-    → (leastLength kind ≤ lengthField packet) × (lengthField packet ≤ length packet)
-within kind packet e h =
-    let shaped = read-done kind packet (sym e ∙ h) .0 in
-    (shaped .least, shaped .inside)
 
 -- what is read of a Challenge
 pub challenge-refused : {number : ℕ} (packet : List ℕ) → number ≡ readNumber kinds.Challenge packet → (number ≡ done → ⊥)

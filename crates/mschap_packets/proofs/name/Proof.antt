@@ -1,12 +1,19 @@
+use mathlib.Core.Path.{sym, _∙_}
 use native.Mathlib.Omega.{arith}
 use borrow.Author.Needs.{needs}
-use Rattle.mschap_packets.proofs.Laws.{within, name-refused, name-done}
+use Rattle.mschap_packets.specs.Laws.{Shaped, read-done}
+use Rattle.mschap_packets.proofs.Laws.{name-refused, name-done}
 use Rattle.mschap_packets.proofs.name.Statement.{statement}
 use Rattle.mschap_packets.proofs.name.Tie as tie
 
--- a packet that is read, from its length on
-abbrev read-at : tie.After-joined → tie.Else1
-read-at p =
+-- what holds of a packet that is read
+shaped : (p : tie.Else1) →
+    let s = p .before .before .before .args in
+    Shaped (s .kind) (s .packet .now)
+shaped p = read-done _ _ (sym (p .before .read-number .ensures) ∙ p .if1 .left) .0
+
+abbrev tested-at : tie.After-joined → tie.Else1
+tested-at p =
     let least = p .before .before .before in
     least .before
 
@@ -26,42 +33,37 @@ least-length-requires c κs = search needs
 
 shared-slice-read-joined : tie.Need-shared-slice-read-joined
 shared-slice-read-joined c =
-    let tested = c .before .before in
-    let w = within _ _ (tested .before .read-number .ensures) (tested .if1 .left) in
-    omega (arith, w .0, w .1)
+    let shape = shaped (c .before .before) in
+    omega (arith, shape .least, shape .inside)
 
 shared-slice-read-joined-2 : tie.Need-shared-slice-read-joined-2
 shared-slice-read-joined-2 c =
-    let tested = c .before .before .before in
-    let w = within _ _ (tested .before .read-number .ensures) (tested .if1 .left) in
-    omega (arith, w .0, w .1)
+    let shape = shaped (c .before .before .before) in
+    omega (arith, shape .least, shape .inside)
 
 joined-requires : tie.Need-joined-requires
 joined-requires c κs = search needs
 
 sub-result : tie.Need-sub-result
 sub-result c =
-    let tested = read-at c in
-    let w = within _ _ (tested .before .read-number .ensures) (tested .if1 .left) in
-    omega (arith, w .0, w .1)
+    let shape = shaped (tested-at c) in
+    omega (arith, shape .least, shape .inside)
 
 part-result-start : tie.Need-part-result-start
 part-result-start c =
-    let tested = read-at c in
-    let w = within _ _ (tested .before .read-number .ensures) (tested .if1 .left) in
-    omega (arith, w .0, w .1)
+    let shape = shaped (tested-at c) in
+    omega (arith, shape .least, shape .inside)
 
 part-result-end : tie.Need-part-result-end
 part-result-end c =
-    let tested = read-at c in
-    let w = within _ _ (tested .before .read-number .ensures) (tested .if1 .left) in
-    omega (arith, w .0, w .1)
+    let shape = shaped (tested-at c) in
+    omega (arith, shape .least, shape .inside)
 
 returns-2 : tie.Need-returns-2
 returns-2 c =
     let length = c .before in
     let least = length .before .before .before in
-    let tested = read-at length in
+    let tested = tested-at length in
     name-done _ _ _ (tested .before .read-number .ensures) (tested .if1 .left) (least .least-length .ensures .0) (length .joined .ensures)
 
 pub name-spec : {M : Type 1} → statement M

@@ -1,8 +1,17 @@
+use mathlib.Core.Path.{sym, _∙_}
 use native.Mathlib.Omega.{arith}
 use borrow.Author.Needs.{needs}
-use Rattle.mschap_packets.proofs.Laws.{within, challenge-refused, challenge-done}
+use Rattle.mschap_packets.specs.declared.Kind.the-variants as kinds
+use Rattle.mschap_packets.specs.Laws.{Shaped, read-done}
+use Rattle.mschap_packets.proofs.Laws.{challenge-refused, challenge-done}
 use Rattle.mschap_packets.proofs.read_challenge.Statement.{statement}
 use Rattle.mschap_packets.proofs.read_challenge.Tie as tie
+
+-- what holds of a packet that is read
+shaped : (p : tie.Else1) →
+    let s = p .before .before .before .args in
+    Shaped kinds.Challenge (s .packet .now)
+shaped p = read-done _ _ (sym (p .before .read-number .ensures) ∙ p .if1 .left) .0
 
 read-number-requires : tie.Need-read-number-requires
 read-number-requires c κs = search needs
@@ -12,15 +21,13 @@ returns c = challenge-refused _ (c .before .read-number .ensures) (c .if1 .taken
 
 shared-slice-read-t7 : tie.Need-shared-slice-read-t7
 shared-slice-read-t7 c =
-    let tested = c .before in
-    let w = within _ _ (tested .before .read-number .ensures) (tested .if1 .left) in
-    omega (arith, w .0, w .1)
+    let shape = shaped (c .before) in
+    omega (arith, shape .least, shape .inside)
 
 challenge-in-requires : tie.Need-challenge-in-requires
 challenge-in-requires c κs =
-    let tested = c .before in
-    let w = within _ _ (tested .before .read-number .ensures) (tested .if1 .left) in
-    omega (arith, w .0, w .1)
+    let shape = shaped (c .before) in
+    omega (arith, shape .least, shape .inside)
 
 returns-2 : tie.Need-returns-2
 returns-2 c =
