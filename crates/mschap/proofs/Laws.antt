@@ -199,11 +199,11 @@ signed hash response challenge m₁ m₂ eh ed el er e₁ e₂ = rw (er, el, ed,
 pub not-size : size ≡ 0 → ⊥
 not-size e = absurd (omega arith)
 
--- the number of a row that applies, and one behind a row that does not
+-- the code of a row that applies, and one behind a row that does not
 pub row-wrong : (n : ℕ) (input : List ℕ) (rest : ℕ) → (length input ≡ n → ⊥) → size ≡ pick (wrong n input) size rest
 row-wrong n input rest h = rw (ne-eqb (length input) n h)
 
-pub behind : {number : ℕ} (n : ℕ) (input : List ℕ) (rest : ℕ) → length input ≡ n → number ≡ rest → number ≡ pick (wrong n input) size rest
+pub behind : {code : ℕ} (n : ℕ) (input : List ℕ) (rest : ℕ) → length input ≡ n → code ≡ rest → code ≡ pick (wrong n input) size rest
 behind n input rest h e = e ∙ rw (eq-eqb (length input) n h)
 
 pub password-long : (password : List ℕ) → longestPassword < length password → size ≡ firstOf (passwordRows password)
@@ -218,11 +218,11 @@ pub count : (n : ℕ) (l : List ℕ) → n ≤ length l → n ≡ length (take n
 count n l h = sym (length-take-le n l h)
 
 -- what is not 0 is a refusal
-not-done : {A : Type 0} (number : ℕ) (result refused : A) → (number ≡ 0 → ⊥) → onDone number result refused ≡ refused
+not-done : {A : Type 0} (code : ℕ) (result refused : A) → (code ≡ 0 → ⊥) → onDone code result refused ≡ refused
 not-done zero result refused h = absurd (h refl)
 not-done (suc n) result refused h = refl
 
--- an answer of a number and a result
+-- an answer of a code and a result
 abbrev pub hash-of : ℕ → List ℕ → Hash
 hash-of n o = record { answer = n; octets = o }
 
@@ -239,44 +239,44 @@ abbrev pub check-of : ℕ → Bool → Checked
 check-of n t = record { answer = n; yes = t }
 
 -- the ways out of a call: a refusal, and a result
-pub refused : {A B : Type 0} {n : ℕ} (make : ℕ → B → A) (number : ℕ) (result zeros : B) → n ≡ number → (n ≡ 0 → ⊥)
-    → make n zeros ≡ make number (onDone number result zeros)
-refused make number result zeros e h = rw (e, not-done number result zeros (λ z. h (e ∙ z)))
+pub refused : {A B : Type 0} {n : ℕ} (make : ℕ → B → A) (code : ℕ) (result zeros : B) → n ≡ code → (n ≡ 0 → ⊥)
+    → make n zeros ≡ make code (onDone code result zeros)
+refused make code result zeros e h = rw (e, not-done code result zeros (λ z. h (e ∙ z)))
 
-pub answered : {A B : Type 0} {o : B} (make : ℕ → B → A) (number : ℕ) (result zeros : B) → number ≡ 0 → o ≡ result
-    → make 0 o ≡ make number (onDone number result zeros)
-answered make number result zeros e eo = rw (e, eo)
+pub answered : {A B : Type 0} {o : B} (make : ℕ → B → A) (code : ℕ) (result zeros : B) → code ≡ 0 → o ≡ result
+    → make 0 o ≡ make code (onDone code result zeros)
+answered make code result zeros e eo = rw (e, eo)
 
 -- what a caller learns from an answer
-told : {A B : Type 0} {x : A} (answer-of : A → ℕ) (result-of : A → B) (y : A) (number : ℕ) (result zeros : B) → x ≡ y → answer-of y ≡ number
-    → result-of y ≡ onDone number result zeros → (answer-of x ≡ number) × (answer-of x ≡ 0 → result-of x ≡ result)
-told answer-of result-of y number result zeros e en er =
+told : {A B : Type 0} {x : A} (answer-of : A → ℕ) (result-of : A → B) (y : A) (code : ℕ) (result zeros : B) → x ≡ y → answer-of y ≡ code
+    → result-of y ≡ onDone code result zeros → (answer-of x ≡ code) × (answer-of x ≡ 0 → result-of x ≡ result)
+told answer-of result-of y code result zeros e en er =
     let n = ap answer-of e ∙ en in
     (n, λ z. ap result-of e ∙ er ∙ rw (sym n ∙ z))
 
-pub hash-told : {x : Hash} (number : ℕ) (hash : List ℕ) → x ≡ hashAnswer number hash
-    → (x .answer ≡ number) × (x .answer ≡ 0 → x .octets ≡ hash)
+pub hash-told : {x : Hash} (code : ℕ) (hash : List ℕ) → x ≡ hashAnswer code hash
+    → (x .answer ≡ code) × (x .answer ≡ 0 → x .octets ≡ hash)
 unfolding hashAnswer
-hash-told number hash e =
-    told (λ (x : Hash). x .answer) (λ (x : Hash). x .octets) (hashAnswer number hash) number hash (replicate 16 0) e refl refl
+hash-told code hash e =
+    told (λ (x : Hash). x .answer) (λ (x : Hash). x .octets) (hashAnswer code hash) code hash (replicate 16 0) e refl refl
 
-pub challenge-told : {x : ChallengeHash} (number : ℕ) (hash : List ℕ) → x ≡ challengeAnswer number hash
-    → (x .answer ≡ number) × (x .answer ≡ 0 → x .octets ≡ hash)
+pub challenge-told : {x : ChallengeHash} (code : ℕ) (hash : List ℕ) → x ≡ challengeAnswer code hash
+    → (x .answer ≡ code) × (x .answer ≡ 0 → x .octets ≡ hash)
 unfolding challengeAnswer
-challenge-told number hash e =
-    told (λ (x : ChallengeHash). x .answer) (λ (x : ChallengeHash). x .octets) (challengeAnswer number hash) number hash (replicate 8 0) e refl refl
+challenge-told code hash e =
+    told (λ (x : ChallengeHash). x .answer) (λ (x : ChallengeHash). x .octets) (challengeAnswer code hash) code hash (replicate 8 0) e refl refl
 
-pub response-told : {x : NtResponse} (number : ℕ) (response : List ℕ) → x ≡ responseAnswer number response
-    → (x .answer ≡ number) × (x .answer ≡ 0 → x .octets ≡ response)
+pub response-told : {x : NtResponse} (code : ℕ) (response : List ℕ) → x ≡ responseAnswer code response
+    → (x .answer ≡ code) × (x .answer ≡ 0 → x .octets ≡ response)
 unfolding responseAnswer
-response-told number response e =
-    told (λ (x : NtResponse). x .answer) (λ (x : NtResponse). x .octets) (responseAnswer number response) number response (replicate 24 0) e refl refl
+response-told code response e =
+    told (λ (x : NtResponse). x .answer) (λ (x : NtResponse). x .octets) (responseAnswer code response) code response (replicate 24 0) e refl refl
 
-pub string-told : {x : AuthenticatorString} (number : ℕ) (string : List ℕ) → x ≡ stringAnswer number string
-    → (x .answer ≡ number) × (x .answer ≡ 0 → x .octets ≡ string)
+pub string-told : {x : AuthenticatorString} (code : ℕ) (string : List ℕ) → x ≡ stringAnswer code string
+    → (x .answer ≡ code) × (x .answer ≡ 0 → x .octets ≡ string)
 unfolding stringAnswer
-string-told number string e =
-    told (λ (x : AuthenticatorString). x .answer) (λ (x : AuthenticatorString). x .octets) (stringAnswer number string) number string (replicate 42 0) e refl refl
+string-told code string e =
+    told (λ (x : AuthenticatorString). x .answer) (λ (x : AuthenticatorString). x .octets) (stringAnswer code string) code string (replicate 42 0) e refl refl
 
 -- the rows of a name
 pub name-long : (name : List ℕ) → longestName < length name → size ≡ firstOf (nameRows name)
@@ -289,7 +289,7 @@ pub name-done : {t : Bool} (name : List ℕ) → t ≡ holds backslash name → 
 name-done name et h e = sym (name-fits name h (sym et ∙ e))
 
 -- what is hashed of a name is no longer than a name may be
-pub name-short : {number : ℕ} (name : List ℕ) → number ≡ firstOf (nameRows name) → number ≡ 0 → length (hashedName name) ≤ longestName
+pub name-short : {code : ℕ} (name : List ℕ) → code ≡ firstOf (nameRows name) → code ≡ 0 → length (hashedName name) ≤ longestName
 unfolding hashedName
 name-short name e z = go (ltb longestName (length name)) refl
   where
@@ -302,7 +302,7 @@ pub challenge-hashed : {user digest o : List ℕ} (peer authenticator name : Lis
 unfolding challengeHash
 challenge-hashed peer authenticator name eu ed eo = rw (eo, ed, eu)
 
--- a number behind the rows of a password, and that of a password
+-- a code behind the rows of a password, and that of a password
 pub behind-password : {n m : ℕ} (password : List ℕ) (rows : List (ℕ × Bool)) → m ≡ firstOf (passwordRows password) → m ≡ 0
     → n ≡ firstOf rows → n ≡ firstOf (passwordRows password ++ rows)
 behind-password {n} password rows em z e = e ∙ go (ltb longestPassword (length password)) (eqb (length password % 2) 0) (sym em ∙ z)
@@ -336,11 +336,11 @@ unfolding authenticatorString
 string-made password response peer authenticator name eh ec eo = rw (eo, eh, ec)
 
 -- what is received, held against the result
-checked : {t : Bool} {own : List ℕ} (n number : ℕ) (result received : List ℕ) → number ≡ 0 → own ≡ result → length own ≡ n
+checked : {t : Bool} {own : List ℕ} (n code : ℕ) (result received : List ℕ) → code ≡ 0 → own ≡ result → length own ≡ n
     → length received ≡ n → t ≡ equal (take n own) (take n received)
-    → _≡_ {A = Checked} (record { answer = 0; yes = t }) (checkAnswer (pick (wrong n received) size number) (equal result received))
+    → _≡_ {A = Checked} (record { answer = 0; yes = t }) (checkAnswer (pick (wrong n received) size code) (equal result received))
 unfolding checkAnswer
-checked {t} {own} n number result received z e ho hr et =
+checked {t} {own} n code result received z e ho hr et =
     rw (eq-eqb (length received) n hr, z, et, take-all n own (omega arith), take-all n received (omega arith), e)
 
 pub response-checked : {r : NtResponse} {t : Bool} (authenticator peer name password received : List ℕ)
@@ -349,10 +349,10 @@ pub response-checked : {r : NtResponse} {t : Bool} (authenticator peer name pass
     → _≡_ {A = Checked} (record { answer = 0; yes = t }) (checkResponseAnswer authenticator peer name password received)
 unfolding ntResponseAnswer checkResponseAnswer
 response-checked authenticator peer name password received e z ho hr et =
-    let number : ℕ = firstOf (responseRows authenticator peer name password) in
+    let code : ℕ = firstOf (responseRows authenticator peer name password) in
     let result : List ℕ = ntResponse authenticator peer name password in
-    let told = response-told number result e in
-    checked 24 number result received (sym (told .0) ∙ z) (told .1 z) ho hr et
+    let told = response-told code result e in
+    checked 24 code result received (sym (told .0) ∙ z) (told .1 z) ho hr et
 
 pub string-checked : {r : AuthenticatorString} {t : Bool} (password response peer authenticator name received : List ℕ)
     → r ≡ authenticatorStringAnswer password response peer authenticator name → r .answer ≡ 0 → length (r .octets) ≡ 42 → length received ≡ 42
@@ -360,7 +360,7 @@ pub string-checked : {r : AuthenticatorString} {t : Bool} (password response pee
     → _≡_ {A = Checked} (record { answer = 0; yes = t }) (checkAuthenticatorAnswer password response peer authenticator name received)
 unfolding authenticatorStringAnswer checkAuthenticatorAnswer
 string-checked password response peer authenticator name received e z ho hr et =
-    let number : ℕ = firstOf (stringRows password response peer authenticator name) in
+    let code : ℕ = firstOf (stringRows password response peer authenticator name) in
     let result : List ℕ = authenticatorString password response peer authenticator name in
-    let told = string-told number result e in
-    checked 42 number result received (sym (told .0) ∙ z) (told .1 z) ho hr et
+    let told = string-told code result e in
+    checked 42 code result received (sym (told .0) ∙ z) (told .1 z) ho hr et

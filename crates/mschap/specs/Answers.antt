@@ -19,33 +19,33 @@ abbrev pub passwordRows : List ℕ → List (ℕ × Bool)
 passwordRows password = (size, ltb longestPassword (length password)) ∷ (size, not (eqb (length password % 2) 0)) ∷ []
 
 -- both challenges, and the name that is hashed with them
-abbrev pub challengeRows : List ℕ → List ℕ → List ℕ → List (ℕ × Bool)
+abbrev pub challengeRows : (peer authenticator name : List ℕ) → List (ℕ × Bool)
 challengeRows peer authenticator name = (size, wrong challengeLength peer) ∷ (size, wrong challengeLength authenticator) ∷ nameRows name
 
 -- what is asked of all that an NT-Response is made from
-abbrev pub responseRows : List ℕ → List ℕ → List ℕ → List ℕ → List (ℕ × Bool)
+abbrev pub responseRows : (authenticator peer name password : List ℕ) → List (ℕ × Bool)
 responseRows authenticator peer name password = passwordRows password ++ challengeRows peer authenticator name
 
 -- and of an NT-Response, for a string
-abbrev pub stringRows : List ℕ → List ℕ → List ℕ → List ℕ → List ℕ → List (ℕ × Bool)
+abbrev pub stringRows : (password response peer authenticator name : List ℕ) → List (ℕ × Bool)
 stringRows password response peer authenticator name = (size, wrong responseLength response) ∷ responseRows authenticator peer name password
 
--- an answer: its number, and the result where that is 0
+-- an answer: its code, and the result where that is 0
 unfoldable pub hashAnswer : ℕ → List ℕ → Hash
-hashAnswer number hash = record { answer = number; octets = onDone number hash (replicate hashLength 0) }
+hashAnswer code hash = record { answer = code; octets = onDone code hash (replicate hashLength 0) }
 
 unfoldable pub challengeAnswer : ℕ → List ℕ → ChallengeHash
-challengeAnswer number hash = record { answer = number; octets = onDone number hash (replicate challengeHashLength 0) }
+challengeAnswer code hash = record { answer = code; octets = onDone code hash (replicate challengeHashLength 0) }
 
 unfoldable pub responseAnswer : ℕ → List ℕ → NtResponse
-responseAnswer number response = record { answer = number; octets = onDone number response (replicate responseLength 0) }
+responseAnswer code response = record { answer = code; octets = onDone code response (replicate responseLength 0) }
 
 unfoldable pub stringAnswer : ℕ → List ℕ → AuthenticatorString
-stringAnswer number string = record { answer = number; octets = onDone number string (replicate stringLength 0) }
+stringAnswer code string = record { answer = code; octets = onDone code string (replicate stringLength 0) }
 
 -- a refused answer has "its yes or no a no"; "A comparison that finds a difference says no; that is a 0"
 unfoldable pub checkAnswer : ℕ → Bool → Checked
-checkAnswer number same = record { answer = number; yes = onDone number same false }
+checkAnswer code same = record { answer = code; yes = onDone code same false }
 
 -- the answers of the calls
 unfoldable pub passwordHashAnswer : List ℕ → Hash
@@ -54,31 +54,31 @@ passwordHashAnswer password = hashAnswer (firstOf (passwordRows password)) (pass
 unfoldable pub hashHashAnswer : List ℕ → Hash
 hashHashAnswer hash = hashAnswer (firstOf ((size, wrong hashLength hash) ∷ [])) (hashHash hash)
 
-unfoldable pub challengeHashAnswer : List ℕ → List ℕ → List ℕ → ChallengeHash
+unfoldable pub challengeHashAnswer : (peer authenticator name : List ℕ) → ChallengeHash
 challengeHashAnswer peer authenticator name =
     challengeAnswer (firstOf (challengeRows peer authenticator name)) (challengeHash peer authenticator name)
 
-unfoldable pub challengeResponseAnswer : List ℕ → List ℕ → NtResponse
+unfoldable pub challengeResponseAnswer : (challenge hash : List ℕ) → NtResponse
 challengeResponseAnswer challenge hash =
     responseAnswer (firstOf ((size, wrong challengeHashLength challenge) ∷ (size, wrong hashLength hash) ∷ []))
     (challengeResponse challenge hash)
 
-unfoldable pub ntResponseAnswer : List ℕ → List ℕ → List ℕ → List ℕ → NtResponse
+unfoldable pub ntResponseAnswer : (authenticator peer name password : List ℕ) → NtResponse
 ntResponseAnswer authenticator peer name password =
     responseAnswer (firstOf (responseRows authenticator peer name password)) (ntResponse authenticator peer name password)
 
-unfoldable pub authenticatorStringAnswer : List ℕ → List ℕ → List ℕ → List ℕ → List ℕ → AuthenticatorString
+unfoldable pub authenticatorStringAnswer : (password response peer authenticator name : List ℕ) → AuthenticatorString
 authenticatorStringAnswer password response peer authenticator name =
     stringAnswer (firstOf (stringRows password response peer authenticator name))
     (authenticatorString password response peer authenticator name)
 
 -- "say yes exactly if every octet equals the one worked out here"
-unfoldable pub checkResponseAnswer : List ℕ → List ℕ → List ℕ → List ℕ → List ℕ → Checked
+unfoldable pub checkResponseAnswer : (authenticator peer name password received : List ℕ) → Checked
 checkResponseAnswer authenticator peer name password received =
     checkAnswer (firstOf ((size, wrong responseLength received) ∷ responseRows authenticator peer name password))
     (equal (ntResponse authenticator peer name password) received)
 
-unfoldable pub checkAuthenticatorAnswer : List ℕ → List ℕ → List ℕ → List ℕ → List ℕ → List ℕ → Checked
+unfoldable pub checkAuthenticatorAnswer : (password response peer authenticator name received : List ℕ) → Checked
 checkAuthenticatorAnswer password response peer authenticator name received =
     checkAnswer (firstOf ((size, wrong stringLength received) ∷ stringRows password response peer authenticator name))
     (equal (authenticatorString password response peer authenticator name) received)

@@ -156,7 +156,7 @@ equal-true (x ∷ xs) (y ∷ ys) h = go (eqb x y) refl (equal-true xs ys)
     go false e rest = absurd (false≢true (rw e at h))
 
 -- a yes comes with a 0, and with no difference
-check-yes : (number : ℕ) (same : Bool) → checkAnswer number same .yes ≡ true → (number ≡ done) × (same ≡ true)
+check-yes : (code : ℕ) (same : Bool) → checkAnswer code same .yes ≡ true → (code ≡ done) × (same ≡ true)
 unfolding checkAnswer
 check-yes zero same h = (refl, h)
 check-yes (suc n) same h = absurd (false≢true h)

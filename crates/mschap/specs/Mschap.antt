@@ -19,7 +19,7 @@ unfoldable pub hashHash : List ℕ → List ℕ
 hashHash hash = md4 hash
 
 -- 8.2, ChallengeHash: the first 8 octets of SHA-1 over PeerChallenge, AuthenticatorChallenge and UserName
-unfoldable pub challengeHash : List ℕ → List ℕ → List ℕ → List ℕ
+unfoldable pub challengeHash : (peer authenticator name : List ℕ) → List ℕ
 challengeHash peer authenticator name = take challengeHashLength (sha1 (peer ++ authenticator ++ hashedName name))
 
 -- 8.5: "Set ZPasswordHash to PasswordHash zero-padded to 21 octets"
@@ -27,13 +27,13 @@ unfoldable pub zPasswordHash : List ℕ → List ℕ
 zPasswordHash hash = hash ++ replicate 5 0
 
 -- 8.5, ChallengeResponse: the challenge hash under the 1st, 2nd and 3rd 7 octets of ZPasswordHash
-unfoldable pub challengeResponse : List ℕ → List ℕ → List ℕ
+unfoldable pub challengeResponse : (challenge hash : List ℕ) → List ℕ
 challengeResponse challenge hash =
     let z : List ℕ = zPasswordHash hash in
     encrypted (take 7 z) challenge ++ encrypted (take 7 (drop 7 z)) challenge ++ encrypted (take 7 (drop 14 z)) challenge
 
 -- 8.1, GenerateNTResponse
-unfoldable pub ntResponse : List ℕ → List ℕ → List ℕ → List ℕ → List ℕ
+unfoldable pub ntResponse : (authenticator peer name password : List ℕ) → List ℕ
 ntResponse authenticator peer name password = challengeResponse (challengeHash peer authenticator name) (passwordHash password)
 
 -- 8.7, Magic1: "Magic server to client signing constant"
@@ -68,18 +68,18 @@ unfoldable pub encoded : List ℕ → List ℕ
 encoded digest = 0x53 ∷ 0x3D ∷ hexDigits digest
 
 -- 8.7 from the hash of the password and the challenge hash on
-unfoldable pub signature : List ℕ → List ℕ → List ℕ → List ℕ
+unfoldable pub signature : (hash response challenge : List ℕ) → List ℕ
 signature hash response challenge =
     let digest : List ℕ = sha1 (hashHash hash ++ response ++ magic1) in
     encoded (sha1 (digest ++ challenge ++ magic2))
 
 -- 8.7, GenerateAuthenticatorResponse
-unfoldable pub authenticatorString : List ℕ → List ℕ → List ℕ → List ℕ → List ℕ → List ℕ
+unfoldable pub authenticatorString : (password response peer authenticator name : List ℕ) → List ℕ
 authenticatorString password response peer authenticator name =
     signature (passwordHash password) response (challengeHash peer authenticator name)
 
 -- 8.8, CheckAuthenticatorResponse: "if (MyResponse = ReceivedResponse)", octet by octet
-unfoldable pub equal : List ℕ → List ℕ → Bool
+unfoldable pub equal : (a b : List ℕ) → Bool
 equal [] [] = true
 equal [] (y ∷ ys) = false
 equal (x ∷ xs) [] = false

@@ -240,46 +240,46 @@ fn refused_hash() -> Hash
 }
 
 // A refusal of a challenge hash.
-fn refused_challenge(number: u8) -> ChallengeHash
-    ensures { λ r. ⌜ r ≡ record { answer = number; octets = replicate 8 0 } ⌝ }
+fn refused_challenge(code: u8) -> ChallengeHash
+    ensures { λ r. ⌜ r ≡ record { answer = code; octets = replicate 8 0 } ⌝ }
 {
     ChallengeHash {
-        answer: number,
+        answer: code,
         octets: [0u8; 8],
     }
 }
 
 // A refusal of an NT-Response.
-fn refused_response(number: u8) -> NtResponse
-    ensures { λ r. ⌜ r ≡ record { answer = number; octets = replicate 24 0 } ⌝ }
+fn refused_response(code: u8) -> NtResponse
+    ensures { λ r. ⌜ r ≡ record { answer = code; octets = replicate 24 0 } ⌝ }
 {
     NtResponse {
-        answer: number,
+        answer: code,
         octets: [0u8; 24],
     }
 }
 
 // A refusal of an authenticator string.
-fn refused_string(number: u8) -> AuthenticatorString
-    ensures { λ r. ⌜ r ≡ record { answer = number; octets = replicate 42 0 } ⌝ }
+fn refused_string(code: u8) -> AuthenticatorString
+    ensures { λ r. ⌜ r ≡ record { answer = code; octets = replicate 42 0 } ⌝ }
 {
     AuthenticatorString {
-        answer: number,
+        answer: code,
         octets: [0u8; 42],
     }
 }
 
 // A refusal of a check.
-fn refused_check(number: u8) -> Checked
-    ensures { λ r. ⌜ r ≡ record { answer = number; yes = false } ⌝ }
+fn refused_check(code: u8) -> Checked
+    ensures { λ r. ⌜ r ≡ record { answer = code; yes = false } ⌝ }
 {
     Checked {
-        answer: number,
+        answer: code,
         yes: false,
     }
 }
 
-// The number for a name that is to be hashed.
+// The code answered for a name that is to be hashed.
 fn name_code(name: &[u8]) -> u8
     ensures { λ r. ⌜ r ≡ firstOf (nameRows (now (name .entry))) ⌝ }
 {

@@ -15,7 +15,7 @@ use Rattle.mschap_packets.specs.declared.Kind.{Kind}
 use Rattle.mschap_packets.specs.declared.Kind.the-variants as kinds
 use Rattle.mschap_packets.specs.declared.Challenge.{Challenge}
 use Rattle.mschap_packets.specs.declared.Response.{Response}
-use Rattle.mschap_packets.specs.Packet.{longestName, codeOf, valueSize, leastLength, header, packetOf, responseValue, part, lengthField, reserved, anySet, readNumber, challengeRead, responseRead, nameOf, nameAt, onward, writeNumber, writeOut, challengeNumber, challengeOut, responseNumber, responseOut}
+use Rattle.mschap_packets.specs.Packet.{longestName, packetCode, valueSize, leastLength, header, packetOf, responseValue, part, lengthField, reserved, anySet, readCode, challengeRead, responseRead, nameOf, nameAt, onward, writeCode, writeOut, challengeCode, challengeOut, responseCode, responseOut}
 use Rattle.mschap_packets.specs.Laws.{earlier, length-packet, set-append}
 
 -- octets looked at one by one: one that is not zero, the next, the end
@@ -46,7 +46,7 @@ part-copied at n packet e h =
     filled n (part at n packet) e (length-take-le n (drop at packet) (omega (arith, length-drop at packet)))
 
 -- the octets of a header
-pub header-laid : {code size : ℕ} (kind : Kind) (identifier n : ℕ) → code ≡ codeOf kind → size ≡ valueSize kind
+pub header-laid : {code size : ℕ} (kind : Kind) (identifier n : ℕ) → code ≡ packetCode kind → size ≡ valueSize kind
     → code ∷ identifier ∷ n / 256 % 256 ∷ n % 256 ∷ size ∷ [] ≡ header kind identifier n
 unfolding header
 header-laid kind identifier n ec es =
@@ -69,27 +69,27 @@ ordered ea eb h = omega arith
 
 -- a packet's tests, one by one
 pub read-short : {least : ℕ} (kind : Kind) (packet : List ℕ) → least ≡ leastLength kind → length packet < least
-    → shape ≡ readNumber kind packet
-unfolding readNumber
+    → shape ≡ readCode kind packet
+unfolding readCode
 read-short kind packet e h = rw (lt-ltb (length packet) (leastLength kind) (omega arith))
 
-pub read-code : {code : ℕ} (kind : Kind) (packet : List ℕ) → code ≡ codeOf kind → (getD packet 0 0 ≡ code → ⊥)
-    → shape ≡ readNumber kind packet
-unfolding readNumber
-read-code kind packet e n = simp (ne-eqb (getD packet 0 0) (codeOf kind) (λ h. n (h ∙ sym e)), earlier)
+pub read-packet-code : {code : ℕ} (kind : Kind) (packet : List ℕ) → code ≡ packetCode kind → (getD packet 0 0 ≡ code → ⊥)
+    → shape ≡ readCode kind packet
+unfolding readCode
+read-packet-code kind packet e n = simp (ne-eqb (getD packet 0 0) (packetCode kind) (λ h. n (h ∙ sym e)), earlier)
 
 pub read-size : {size : ℕ} (kind : Kind) (packet : List ℕ) → size ≡ valueSize kind → (getD packet 4 0 ≡ size → ⊥)
-    → shape ≡ readNumber kind packet
-unfolding readNumber
+    → shape ≡ readCode kind packet
+unfolding readCode
 read-size kind packet e n = simp (ne-eqb (getD packet 4 0) (valueSize kind) (λ h. n (h ∙ sym e)), earlier)
 
-pub read-beyond : {n : ℕ} (kind : Kind) (packet : List ℕ) → n ≡ lengthField packet → length packet < n → shape ≡ readNumber kind packet
-unfolding readNumber
+pub read-beyond : {n : ℕ} (kind : Kind) (packet : List ℕ) → n ≡ lengthField packet → length packet < n → shape ≡ readCode kind packet
+unfolding readCode
 read-beyond kind packet en h = simp (lt-ltb (length packet) (lengthField packet) (omega arith), earlier)
 
 pub read-reserved : {t : Bool} (kind : Kind) (packet : List ℕ) → t ≡ anySet (reserved kind packet) → t ≡ true
-    → shape ≡ readNumber kind packet
-unfolding readNumber
+    → shape ≡ readCode kind packet
+unfolding readCode
 read-reserved kind packet e h = simp (sym e ∙ h, earlier)
 
 -- a refusal, and a result
@@ -98,26 +98,26 @@ on-refused zero result refused h = absurd (h refl)
 on-refused (suc n) result refused h = refl
 
 -- what is read of a Challenge
-pub challenge-refused : {number : ℕ} (packet : List ℕ) → number ≡ readNumber kinds.Challenge packet → (number ≡ done → ⊥)
-    → _≡_ {A = Challenge} (record { answer = number; identifier = 0; value = replicate 16 0 }) (challengeRead packet)
+pub challenge-refused : {code : ℕ} (packet : List ℕ) → code ≡ readCode kinds.Challenge packet → (code ≡ done → ⊥)
+    → _≡_ {A = Challenge} (record { answer = code; identifier = 0; value = replicate 16 0 }) (challengeRead packet)
 unfolding challengeRead
 challenge-refused packet e h = rw e (sym (on-refused _ _ _ (λ z. h (e ∙ z))))
 
-pub challenge-done : {number : ℕ} {value : List ℕ} (packet : List ℕ) → number ≡ readNumber kinds.Challenge packet → number ≡ done
+pub challenge-done : {code : ℕ} {value : List ℕ} (packet : List ℕ) → code ≡ readCode kinds.Challenge packet → code ≡ done
     → value ≡ part 5 16 packet
     → _≡_ {A = Challenge} (record { answer = done; identifier = getD packet 1 0; value = value }) (challengeRead packet)
 unfolding challengeRead
 challenge-done packet e h ev = rw (sym e ∙ h, ev)
 
 -- what is read of a Response
-pub response-refused : {number : ℕ} (packet : List ℕ) → number ≡ readNumber kinds.Response packet → (number ≡ done → ⊥)
+pub response-refused : {code : ℕ} (packet : List ℕ) → code ≡ readCode kinds.Response packet → (code ≡ done → ⊥)
     → _≡_ {A = Response}
-    (record { answer = number; identifier = 0; «peer_challenge» = replicate 16 0; «nt_response» = replicate 24 0 })
+    (record { answer = code; identifier = 0; «peer_challenge» = replicate 16 0; «nt_response» = replicate 24 0 })
     (responseRead packet)
 unfolding responseRead
 response-refused packet e h = rw e (sym (on-refused _ _ _ (λ z. h (e ∙ z))))
 
-pub response-done : {number : ℕ} {peer response : List ℕ} (packet : List ℕ) → number ≡ readNumber kinds.Response packet → number ≡ done
+pub response-done : {code : ℕ} {peer response : List ℕ} (packet : List ℕ) → code ≡ readCode kinds.Response packet → code ≡ done
     → peer ≡ part 5 16 packet → response ≡ part 29 24 packet
     → _≡_ {A = Response}
     (record { answer = done; identifier = getD packet 1 0; «peer_challenge» = peer; «nt_response» = response })
@@ -126,14 +126,14 @@ unfolding responseRead
 response-done packet e h ep er = rw (sym e ∙ h, ep, er)
 
 -- the name of a packet, and the place where it begins
-pub name-refused : {number : ℕ} (kind : Kind) (packet : List ℕ) (place : ℕ × ℕ) → number ≡ readNumber kind packet → (number ≡ done → ⊥)
+pub name-refused : {code : ℕ} (kind : Kind) (packet : List ℕ) (place : ℕ × ℕ) → code ≡ readCode kind packet → (code ≡ done → ⊥)
     → ([] ≡ nameOf kind packet) × (place ≡ onward (nameAt kind packet) place)
 unfolding nameOf nameAt
 name-refused kind packet place e h =
     let front : 0 ≡ nameAt kind packet = sym (on-refused _ _ _ (λ z. h (e ∙ z))) in
     (sym (on-refused _ _ _ (λ z. h (e ∙ z))), ap (λ (n : ℕ). (place .0, n)) (omega arith))
 
-pub name-done : {number start end : ℕ} (kind : Kind) (packet : List ℕ) (place : ℕ × ℕ) → number ≡ readNumber kind packet → number ≡ done
+pub name-done : {code start end : ℕ} (kind : Kind) (packet : List ℕ) (place : ℕ × ℕ) → code ≡ readCode kind packet → code ≡ done
     → start ≡ leastLength kind → end ≡ lengthField packet
     → (part start (end - start) packet ≡ nameOf kind packet) × (onward start place ≡ onward (nameAt kind packet) place)
 unfolding nameOf nameAt
@@ -151,15 +151,15 @@ written-more {b} l q out at e e′ h room =
 
 -- what is written of a packet
 pub long-name : (packet name out : List ℕ) → longestName < length name
-    → (size ≡ writeNumber false packet name out) × (out ≡ writeOut false packet name out)
-unfolding writeNumber writeOut
+    → (size ≡ writeCode false packet name out) × (out ≡ writeOut false packet name out)
+unfolding writeCode writeOut
 long-name packet name out h = rw (lt-ltb longestName (length name) h) (refl, refl)
 
 pub no-room : {least : ℕ} (kind : Kind) (identifier : ℕ) (value name out : List ℕ) → length value ≡ valueSize kind
     → length name ≤ longestName → least ≡ leastLength kind → length out < least + length name
-    → (room ≡ writeNumber false (packetOf kind identifier value name) name out)
+    → (room ≡ writeCode false (packetOf kind identifier value name) name out)
     × (out ≡ writeOut false (packetOf kind identifier value name) name out)
-unfolding writeNumber writeOut
+unfolding writeCode writeOut
 no-room kind identifier value name out hv hn el h =
     let all = length-packet kind identifier value name hv in
     let short = lt-ltb (length out) (length (packetOf kind identifier value name)) (omega arith) in
@@ -170,9 +170,9 @@ pub packet-written : {least : ℕ} {head out₁ out₂ out₃ : List ℕ} (kind 
     → head ≡ header kind identifier (least + length name)
     → out₁ ≡ written (take (length out) head) out → out₂ ≡ writtenAt 5 (take (length out₁ - 5) value) out₁
     → out₃ ≡ writtenAt least (take (length out₂ - least) name) out₂
-    → (done ≡ writeNumber false (packetOf kind identifier value name) name out)
+    → (done ≡ writeCode false (packetOf kind identifier value name) name out)
     × (out₃ ≡ writeOut false (packetOf kind identifier value name) name out)
-unfolding writeNumber writeOut packetOf header
+unfolding writeCode writeOut packetOf header
 packet-written {least} {head} {out₁} kind identifier value name out hv hn el h eh e₁ e₂ e₃ =
     let front : length head ≡ 5 = ap length eh in
     let g₁ : out₁ ≡ written head out = e₁ ∙ rw (take-all (length out) head (omega arith)) in
@@ -184,33 +184,33 @@ packet-written {least} {head} {out₁} kind identifier value name out hv hn el h
 
 -- what is written of a Challenge
 pub challenge-wrong : (identifier : ℕ) (challenge name out : List ℕ) → (length challenge ≡ 16 → ⊥)
-    → (size ≡ challengeNumber identifier challenge name out) × (out ≡ challengeOut identifier challenge name out)
-unfolding challengeNumber challengeOut writeNumber writeOut
+    → (size ≡ challengeCode identifier challenge name out) × (out ≡ challengeOut identifier challenge name out)
+unfolding challengeCode challengeOut writeCode writeOut
 challenge-wrong identifier challenge name out h = rw (ne-eqb (length challenge) 16 h) (refl, refl)
 
-pub challenge-passed : {number : ℕ} {out′ : List ℕ} (identifier : ℕ) (challenge name out : List ℕ) → length challenge ≡ 16
-    → (number ≡ writeNumber false (packetOf kinds.Challenge identifier challenge name) name out)
+pub challenge-passed : {code : ℕ} {out′ : List ℕ} (identifier : ℕ) (challenge name out : List ℕ) → length challenge ≡ 16
+    → (code ≡ writeCode false (packetOf kinds.Challenge identifier challenge name) name out)
     × (out′ ≡ writeOut false (packetOf kinds.Challenge identifier challenge name) name out)
-    → (number ≡ challengeNumber identifier challenge name out) × (out′ ≡ challengeOut identifier challenge name out)
-unfolding challengeNumber challengeOut
+    → (code ≡ challengeCode identifier challenge name out) × (out′ ≡ challengeOut identifier challenge name out)
+unfolding challengeCode challengeOut
 challenge-passed identifier challenge name out h e = rw (eq-eqb (length challenge) 16 h) e
 
 -- what is written of a Response
 pub peer-wrong : (identifier : ℕ) (peer response name out : List ℕ) → (length peer ≡ 16 → ⊥)
-    → (size ≡ responseNumber identifier peer response name out) × (out ≡ responseOut identifier peer response name out)
-unfolding responseNumber responseOut writeNumber writeOut
+    → (size ≡ responseCode identifier peer response name out) × (out ≡ responseOut identifier peer response name out)
+unfolding responseCode responseOut writeCode writeOut
 peer-wrong identifier peer response name out h = rw (ne-eqb (length peer) 16 h) (refl, refl)
 
 pub response-wrong : (identifier : ℕ) (peer response name out : List ℕ) → length peer ≡ 16 → (length response ≡ 24 → ⊥)
-    → (size ≡ responseNumber identifier peer response name out) × (out ≡ responseOut identifier peer response name out)
-unfolding responseNumber responseOut writeNumber writeOut
+    → (size ≡ responseCode identifier peer response name out) × (out ≡ responseOut identifier peer response name out)
+unfolding responseCode responseOut writeCode writeOut
 response-wrong identifier peer response name out h n = rw (eq-eqb (length peer) 16 h, ne-eqb (length response) 24 n) (refl, refl)
 
-pub response-passed : {number : ℕ} {value out′ : List ℕ} (identifier : ℕ) (peer response name out : List ℕ) → length peer ≡ 16
+pub response-passed : {code : ℕ} {value out′ : List ℕ} (identifier : ℕ) (peer response name out : List ℕ) → length peer ≡ 16
     → length response ≡ 24 → value ≡ responseValue peer response
-    → (number ≡ writeNumber false (packetOf kinds.Response identifier value name) name out)
+    → (code ≡ writeCode false (packetOf kinds.Response identifier value name) name out)
     × (out′ ≡ writeOut false (packetOf kinds.Response identifier value name) name out)
-    → (number ≡ responseNumber identifier peer response name out) × (out′ ≡ responseOut identifier peer response name out)
-unfolding responseNumber responseOut
+    → (code ≡ responseCode identifier peer response name out) × (out′ ≡ responseOut identifier peer response name out)
+unfolding responseCode responseOut
 response-passed identifier peer response name out hp hr ev e =
     rw (eq-eqb (length peer) 16 hp, eq-eqb (length response) 24 hr, ← ev) e

@@ -17,22 +17,22 @@ use Rattle.mschap_packets.specs.declared.Kind.{Kind}
 use Rattle.mschap_packets.specs.declared.Kind.the-variants as kinds
 use Rattle.mschap_packets.specs.declared.Challenge.{Challenge}
 use Rattle.mschap_packets.specs.declared.Response.{Response}
-use Rattle.mschap_packets.specs.Packet.{challengeLength, responseLength, longestName, headerLength, codeOf, valueSize, leastLength, header, packetOf, responseValue, part, lengthField, reserved, anySet, readRows, readNumber, challengeRead, responseRead, nameOf, nameAt, writeRows, writeNumber, writeOut, challengeNumber, challengeOut, responseNumber, responseOut}
+use Rattle.mschap_packets.specs.Packet.{challengeLength, responseLength, longestName, headerLength, packetCode, valueSize, leastLength, header, packetOf, responseValue, part, lengthField, reserved, anySet, readRows, readCode, challengeRead, responseRead, nameOf, nameAt, writeRows, writeCode, writeOut, challengeCode, challengeOut, responseCode, responseOut}
 
--- an earlier row of the same number changes nothing
+-- an earlier row of the same code changes nothing
 pub earlier : (t : Bool) (n : ℕ) → pick t n n ≡ n
 earlier true n = refl
 earlier false n = refl
 
 -- a packet that names too small a length
 pub read-least : {least n : ℕ} (kind : Kind) (packet : List ℕ) → least ≡ leastLength kind → n ≡ lengthField packet → n < least
-    → shape ≡ readNumber kind packet
-unfolding readNumber
+    → shape ≡ readCode kind packet
+unfolding readCode
 read-least kind packet el en h = simp (lt-ltb (lengthField packet) (leastLength kind) (omega arith), earlier)
 
 -- what holds of a packet to which no row of 1 applies
 pub record Shaped (kind : Kind) (packet : List ℕ) : Type 0 where
-  pub code : getD packet 0 0 ≡ codeOf kind
+  pub code : getD packet 0 0 ≡ packetCode kind
   pub size : getD packet 4 0 ≡ valueSize kind
   pub least : leastLength kind ≤ lengthField packet
   pub inside : lengthField packet ≤ length packet
@@ -40,17 +40,17 @@ pub record Shaped (kind : Kind) (packet : List ℕ) : Type 0 where
 
 -- its name is too long, or not
 pub read-name : {least n : ℕ} {t : Bool} (kind : Kind) (packet : List ℕ) → Shaped kind packet → least ≡ leastLength kind
-    → n ≡ lengthField packet → ltb longestName (n - least) ≡ t → pick t size done ≡ readNumber kind packet
-unfolding readNumber
+    → n ≡ lengthField packet → ltb longestName (n - least) ≡ t → pick t size done ≡ readCode kind packet
+unfolding readCode
 read-name kind packet shaped el en ht =
     let long = le-ltb (length packet) (leastLength kind) (omega (arith, shaped .least, shaped .inside)) in
-    let code = eq-eqb (getD packet 0 0) (codeOf kind) (shaped .code) in
+    let code = eq-eqb (getD packet 0 0) (packetCode kind) (shaped .code) in
     let size = eq-eqb (getD packet 4 0) (valueSize kind) (shaped .size) in
     let least = le-ltb (lengthField packet) (leastLength kind) (shaped .least) in
     let inside = le-ltb (length packet) (lengthField packet) (shaped .inside) in
     rw (long, code, size, least, inside, shaped .clear, ← en, ← el, ht)
 
--- where the number is 0, no row of another number applies
+-- where the code is 0, no row of another code applies
 abbrev NoneOf : List (ℕ × Bool) → Type 0
 NoneOf [] = Unit {0}
 NoneOf ((zero, t) ∷ rows) = Unit {0}
@@ -67,9 +67,9 @@ neither true b h = (h, cc)
 neither false b h = (refl, h)
 
 -- what holds of a packet that is read
-pub read-done : (kind : Kind) (packet : List ℕ) → readNumber kind packet ≡ done
+pub read-done : (kind : Kind) (packet : List ℕ) → readCode kind packet ≡ done
     → Shaped kind packet × (lengthField packet - leastLength kind ≤ longestName)
-unfolding readNumber
+unfolding readCode
 read-done kind packet h =
     let coded = none-of (readRows kind packet) h .1 in
     let sized = coded .1 in
@@ -96,7 +96,7 @@ length-packet kind identifier value name h = simp length-append (omega arith)
 module _ (kind : Kind) (identifier : ℕ) (value name rest packet : List ℕ) (e : packet ≡ packetOf kind identifier value name ++ rest)
     (named : length name ≤ longestName) where
   -- what its header says: the code, the identifier, the value's size, and the packet's own length
-  fixed-fields : (getD packet 0 0 ≡ codeOf kind) × (getD packet 1 0 ≡ identifier) × (getD packet 4 0 ≡ valueSize kind)
+  fixed-fields : (getD packet 0 0 ≡ packetCode kind) × (getD packet 1 0 ≡ identifier) × (getD packet 4 0 ≡ valueSize kind)
   unfolding packetOf header
   fixed-fields = rw e (refl, refl, refl)
 
@@ -122,8 +122,8 @@ module _ (kind : Kind) (identifier : ℕ) (value name rest packet : List ℕ) (e
       rw (← drop-drop k 5 packet, behind, split, drop-at front (x ++ (tail ++ more)) k hf, take-at x (tail ++ more) n hx)
 
   -- it is read where its reserved octets are zeros ..
-  number-back : length value ≡ valueSize kind → anySet (reserved kind packet) ≡ false → readNumber kind packet ≡ done
-  number-back hv hr =
+  code-back : length value ≡ valueSize kind → anySet (reserved kind packet) ≡ false → readCode kind packet ≡ done
+  code-back hv hr =
       let whole = ap length e ∙ length-append (packetOf kind identifier value name) rest in
       let long : leastLength kind + length name ≤ length packet = omega (arith, whole, length-packet kind identifier value name hv) in
       let n = length-named in
@@ -133,7 +133,7 @@ module _ (kind : Kind) (identifier : ℕ) (value name rest packet : List ℕ) (e
       sym (read-name kind packet shaped refl refl short)
 
   -- .. and so is its name
-  name-back : length value ≡ valueSize kind → readNumber kind packet ≡ done → nameOf kind packet ≡ name
+  name-back : length value ≡ valueSize kind → readCode kind packet ≡ done → nameOf kind packet ≡ name
   unfolding nameOf
   name-back hv hr =
       let n = length-named in
@@ -141,31 +141,31 @@ module _ (kind : Kind) (identifier : ℕ) (value name rest packet : List ℕ) (e
       rw (hr, ← drop-drop (valueSize kind) 5 packet, split) (take-at name rest (lengthField packet - leastLength kind) (omega arith))
 
 -- what a call that answered 0 wrote: nothing was wrong, the name was not too long, and the packet stands in front
-written-done : (t : Bool) (packet name out : List ℕ) → writeNumber t packet name out ≡ done
+written-done : (t : Bool) (packet name out : List ℕ) → writeCode t packet name out ≡ done
     → (t ≡ false) × (length name ≤ longestName) × (writeOut t packet name out ≡ packet ++ drop (length packet) out)
-unfolding writeNumber writeOut
+unfolding writeCode writeOut
 written-done t packet name out h =
     let rows = none-of (writeRows t packet name out) h in
     (rows .0, ltb-false _ _ (rows .1 .0), rw h)
 
 -- a Challenge that a call wrote reads back to the same fields and name, whatever the buffer holds behind it
-pub challenge-reads-back : (identifier : ℕ) (challenge name out : List ℕ) → challengeNumber identifier challenge name out ≡ done
+pub challenge-reads-back : (identifier : ℕ) (challenge name out : List ℕ) → challengeCode identifier challenge name out ≡ done
     → (_≡_ {A = Challenge}
     (challengeRead (challengeOut identifier challenge name out))
     (record { answer = done; identifier = identifier; value = challenge }))
     × (nameOf kinds.Challenge (challengeOut identifier challenge name out) ≡ name)
-unfolding challengeNumber challengeOut challengeRead
+unfolding challengeCode challengeOut challengeRead
 challenge-reads-back identifier challenge name out h =
     let packet : List ℕ = packetOf kinds.Challenge identifier challenge name in
     let rest : List ℕ = drop (length packet) out in
     let out′ : List ℕ = challengeOut identifier challenge name out in
     let w = written-done (wrong challengeLength challenge) packet name out h in
     let size : length challenge ≡ 16 = eqb-true (length challenge) 16 (not-false _ (w .0)) in
-    let number = number-back kinds.Challenge identifier challenge name rest out′ (w .2) (w .1) size refl in
+    let code = code-back kinds.Challenge identifier challenge name rest out′ (w .2) (w .1) size refl in
     let id = fixed-fields kinds.Challenge identifier challenge name rest out′ (w .2) (w .1) .1 in
     let part-is = value-part kinds.Challenge identifier challenge name rest out′ (w .2) (w .1) in
     let value = part-is [] challenge [] 0 16 (sym (append-nil challenge)) refl size in
-    (rw (number, id, value), name-back kinds.Challenge identifier challenge name rest out′ (w .2) (w .1) size number)
+    (rw (code, id, value), name-back kinds.Challenge identifier challenge name rest out′ (w .2) (w .1) size code)
 
 -- the parts of a Response's value: what stands in front of each, and behind it
 value-parts : (peer response : List ℕ)
@@ -177,12 +177,12 @@ unfolding responseValue
 value-parts peer response = (simp append-assoc, simp append-assoc, simp append-assoc, refl)
 
 -- .. and so does a Response
-pub response-reads-back : (identifier : ℕ) (peer response name out : List ℕ) → responseNumber identifier peer response name out ≡ done
+pub response-reads-back : (identifier : ℕ) (peer response name out : List ℕ) → responseCode identifier peer response name out ≡ done
     → (_≡_ {A = Response}
     (responseRead (responseOut identifier peer response name out))
     (record { answer = done; identifier = identifier; «peer_challenge» = peer; «nt_response» = response }))
     × (nameOf kinds.Response (responseOut identifier peer response name out) ≡ name)
-unfolding responseNumber responseOut responseRead
+unfolding responseCode responseOut responseRead
 response-reads-back identifier peer response name out h =
     let value : List ℕ = responseValue peer response in
     let packet : List ℕ = packetOf kinds.Response identifier value name in
@@ -200,11 +200,11 @@ response-reads-back identifier peer response name out h =
     let zeros = part-is peer (replicate 8 0) (response ++ replicate 1 0) 16 8 (parts .1) lp refl in
     let flags = part-is (peer ++ replicate 8 0 ++ response) (replicate 1 0) [] 48 1 (parts .3) l₃ refl in
     let clear : anySet (reserved kinds.Response out′) ≡ false = rw (zeros, flags) in
-    let number = number-back kinds.Response identifier value name rest out′ (w .2) (w .1) lv clear in
+    let code = code-back kinds.Response identifier value name rest out′ (w .2) (w .1) lv clear in
     let id = fixed-fields kinds.Response identifier value name rest out′ (w .2) (w .1) .1 in
     let first = part-is [] peer (replicate 8 0 ++ response ++ replicate 1 0) 0 16 (parts .0) refl lp in
     let second = part-is (peer ++ replicate 8 0) response (replicate 1 0) 24 24 (parts .2) l₂ lr in
-    (rw (number, id, first, second), name-back kinds.Response identifier value name rest out′ (w .2) (w .1) lv number)
+    (rw (code, id, first, second), name-back kinds.Response identifier value name rest out′ (w .2) (w .1) lv code)
 
 -- reserved octets that are clear are zeros
 pub set-append : (a b : List ℕ) → anySet (a ++ b) ≡ anySet a || anySet b
@@ -254,7 +254,7 @@ header-again kind packet octets shaped =
     rw (high, low, ← shaped .code, ← shaped .size, more 4 (omega arith), more 3 (omega arith), more 2 (omega arith), more 1 (omega arith), more 0 (omega arith))
 
 -- a packet of octets that is read is, up to the length that it names, the packet that is made of its identifier, value and name
-pub read-again : (kind : Kind) (packet : List ℕ) → Octets packet → readNumber kind packet ≡ done
+pub read-again : (kind : Kind) (packet : List ℕ) → Octets packet → readCode kind packet ≡ done
     → take (lengthField packet) packet ≡ packetOf kind (getD packet 1 0) (part headerLength (valueSize kind) packet) (nameOf kind packet)
 unfolding packetOf nameOf
 read-again kind packet octets h =
@@ -272,12 +272,12 @@ read-again kind packet octets h =
 
 -- .. and that is written where there is room for it
 write-again : {wrongValue : Bool} (kind : Kind) (identifier : ℕ) (value packet out : List ℕ) → Octets packet
-    → readNumber kind packet ≡ done → getD packet 1 0 ≡ identifier → part headerLength (valueSize kind) packet ≡ value → wrongValue ≡ false
+    → readCode kind packet ≡ done → getD packet 1 0 ≡ identifier → part headerLength (valueSize kind) packet ≡ value → wrongValue ≡ false
     → lengthField packet ≤ length out
-    → (writeNumber wrongValue (packetOf kind identifier value (nameOf kind packet)) (nameOf kind packet) out ≡ done)
+    → (writeCode wrongValue (packetOf kind identifier value (nameOf kind packet)) (nameOf kind packet) out ≡ done)
     × (writeOut wrongValue (packetOf kind identifier value (nameOf kind packet)) (nameOf kind packet) out
     ≡ written (take (lengthField packet) packet) out)
-unfolding writeNumber writeOut nameOf
+unfolding writeCode writeOut nameOf
 write-again kind identifier value packet out octets h ei ev right room =
     let shaped = read-done kind packet h .0 in
     let least = shaped .least in
@@ -302,11 +302,11 @@ given answer-of (suc n) result refused er e z = absurd (suc-ne-zero n (sym er �
 pub challenge-writes-again : (identifier : ℕ) (challenge packet out : List ℕ) → Octets packet
     → _≡_ {A = Challenge} (challengeRead packet) (record { answer = done; identifier = identifier; value = challenge })
     → lengthField packet ≤ length out
-    → (challengeNumber identifier challenge (nameOf kinds.Challenge packet) out ≡ done)
+    → (challengeCode identifier challenge (nameOf kinds.Challenge packet) out ≡ done)
     × (challengeOut identifier challenge (nameOf kinds.Challenge packet) out ≡ written (take (lengthField packet) packet) out)
-unfolding challengeRead challengeNumber challengeOut
+unfolding challengeRead challengeCode challengeOut
 challenge-writes-again identifier challenge packet out octets e room =
-    let r = given (λ (r : Challenge). r .answer) (readNumber kinds.Challenge packet) _ _ refl e refl in
+    let r = given (λ (r : Challenge). r .answer) (readCode kinds.Challenge packet) _ _ refl e refl in
     let shaped = read-done kinds.Challenge packet (r .0) .0 in
     let long : 21 ≤ length packet = omega (arith, shaped .least, shaped .inside) in
     let id : getD packet 1 0 ≡ identifier = ap (λ (r : Challenge). r .identifier) (r .1) in
@@ -318,11 +318,11 @@ challenge-writes-again identifier challenge packet out octets e room =
 pub response-writes-again : (identifier : ℕ) (peer response packet out : List ℕ) → Octets packet
     → _≡_ {A = Response} (responseRead packet) (record { answer = done; identifier = identifier; «peer_challenge» = peer; «nt_response» = response })
     → lengthField packet ≤ length out
-    → (responseNumber identifier peer response (nameOf kinds.Response packet) out ≡ done)
+    → (responseCode identifier peer response (nameOf kinds.Response packet) out ≡ done)
     × (responseOut identifier peer response (nameOf kinds.Response packet) out ≡ written (take (lengthField packet) packet) out)
-unfolding responseRead responseNumber responseOut
+unfolding responseRead responseCode responseOut
 response-writes-again identifier peer response packet out octets e room =
-    let r = given (λ (r : Response). r .answer) (readNumber kinds.Response packet) _ _ refl e refl in
+    let r = given (λ (r : Response). r .answer) (readCode kinds.Response packet) _ _ refl e refl in
     let shaped = read-done kinds.Response packet (r .0) .0 in
     let long : 54 ≤ length packet = omega (arith, shaped .least, shaped .inside) in
     let id : getD packet 1 0 ≡ identifier = ap (λ (r : Response). r .identifier) (r .1) in
@@ -358,11 +358,11 @@ module _ (packet padding : List ℕ) (headed : headerLength ≤ length packet) (
   length-padded : lengthField (packet ++ padding) ≡ lengthField packet
   length-padded = rw (octet-padded 2 (omega arith), octet-padded 3 (omega arith))
 
-  number-padded : (kind : Kind) → readNumber kind (packet ++ padding) ≡ readNumber kind packet
-  unfolding readNumber
-  number-padded kind = go (decLe (leastLength kind) (length packet))
+  code-padded : (kind : Kind) → readCode kind (packet ++ padding) ≡ readCode kind packet
+  unfolding readCode
+  code-padded kind = go (decLe (leastLength kind) (length packet))
     where
-      go : Dec (leastLength kind ≤ length packet) → readNumber kind (packet ++ padding) ≡ readNumber kind packet
+      go : Dec (leastLength kind ≤ length packet) → readCode kind (packet ++ padding) ≡ readCode kind packet
       go (yes h) =
           let more = length-append packet padding in
           let long = le-ltb (length packet) (leastLength kind) h in
@@ -374,31 +374,31 @@ module _ (packet padding : List ℕ) (headed : headerLength ≤ length packet) (
           let small : lengthField packet < leastLength kind = omega arith in
           sym (read-least kind (packet ++ padding) refl (sym length-padded) small) ∙ read-least kind packet refl refl small
 
-  valued : (kind : Kind) → readNumber kind packet ≡ done → leastLength kind ≤ lengthField packet
+  valued : (kind : Kind) → readCode kind packet ≡ done → leastLength kind ≤ lengthField packet
   valued kind h = read-done kind packet h .0 .least
 
   pub name-padded : (kind : Kind) → nameOf kind (packet ++ padding) ≡ nameOf kind packet
   unfolding nameOf
   name-padded kind =
-      rw (number-padded kind, length-padded)
-      (same-done (readNumber kind packet) _ _ _ (λ h.
+      rw (code-padded kind, length-padded)
+      (same-done (readCode kind packet) _ _ _ (λ h.
       part-padded (leastLength kind) (lengthField packet - leastLength kind) (omega (arith, valued kind h))))
 
   pub place-padded : (kind : Kind) → nameAt kind (packet ++ padding) ≡ nameAt kind packet
   unfolding nameAt
-  place-padded kind = rw (number-padded kind)
+  place-padded kind = rw (code-padded kind)
 
   pub challenge-padded : challengeRead (packet ++ padding) ≡ challengeRead packet
   unfolding challengeRead
   challenge-padded =
-      rw (number-padded kinds.Challenge)
-      (same-done (readNumber kinds.Challenge packet) _ _ _ (λ h.
+      rw (code-padded kinds.Challenge)
+      (same-done (readCode kinds.Challenge packet) _ _ _ (λ h.
       rw (octet-padded 1 (omega arith), part-padded 5 16 (omega (arith, valued kinds.Challenge h)))))
 
   pub response-padded : responseRead (packet ++ padding) ≡ responseRead packet
   unfolding responseRead
   response-padded =
-      rw (number-padded kinds.Response)
-      (same-done (readNumber kinds.Response packet) _ _ _ (λ h.
+      rw (code-padded kinds.Response)
+      (same-done (readCode kinds.Response packet) _ _ _ (λ h.
       let long = valued kinds.Response h in
       rw (octet-padded 1 (omega arith), part-padded 5 16 (omega arith), part-padded 29 24 (omega arith))))

@@ -22,9 +22,9 @@ abbrev pub longestName : ℕ
 longestName = 256
 
 -- "Challenge: code 1", "Response: code 2"
-abbrev pub codeOf : Kind → ℕ
-codeOf kinds.Challenge = 1
-codeOf kinds.Response = 2
+abbrev pub packetCode : Kind → ℕ
+packetCode kinds.Challenge = 1
+packetCode kinds.Response = 2
 
 -- "size 16", "size 49"
 abbrev pub valueSize : Kind → ℕ
@@ -40,24 +40,24 @@ abbrev pub leastLength : Kind → ℕ
 leastLength kind = headerLength + valueSize kind
 
 -- "code, identifier, length (2, high octet first), value size", in front of the value
-unfoldable pub header : Kind → ℕ → ℕ → List ℕ
-header kind identifier n = codeOf kind ∷ identifier ∷ bigEndian 2 n ++ valueSize kind ∷ []
+unfoldable pub header : (kind : Kind) (identifier n : ℕ) → List ℕ
+header kind identifier n = packetCode kind ∷ identifier ∷ bigEndian 2 n ++ valueSize kind ∷ []
 
 -- a packet with its value and name
-unfoldable pub packetOf : Kind → ℕ → List ℕ → List ℕ → List ℕ
+unfoldable pub packetOf : (kind : Kind) (identifier : ℕ) (value name : List ℕ) → List ℕ
 packetOf kind identifier value name = header kind identifier (leastLength kind + length name) ++ value ++ name
 
 -- a Response's value: "peer challenge 16, zero 8, NT-Response 24, zero 1"
-unfoldable pub responseValue : List ℕ → List ℕ → List ℕ
+unfoldable pub responseValue : (peer response : List ℕ) → List ℕ
 responseValue peer response = peer ++ replicate 8 0 ++ response ++ replicate 1 0
 
 -- n octets from a place of a packet on
-abbrev pub part : ℕ → ℕ → List ℕ → List ℕ
+abbrev pub part : (at n : ℕ) (packet : List ℕ) → List ℕ
 part at n packet = take n (drop at packet)
 
 -- the length that a packet names
 abbrev pub lengthField : List ℕ → ℕ
-lengthField packet = 256 * getD packet 2 0 + getD packet 3 0
+lengthField packet = getD packet 2 0 * 256 + getD packet 3 0
 
 -- the octets that are reserved, by their places in a packet: a Response has eight and one
 abbrev pub reserved : Kind → List ℕ → List ℕ
@@ -73,7 +73,7 @@ anySet (x ∷ xs) = not (eqb x 0) || anySet xs
 abbrev pub readRows : Kind → List ℕ → List (ℕ × Bool)
 readRows kind packet =
     (shape, ltb (length packet) (leastLength kind))
-    ∷ (shape, not (eqb (getD packet 0 0) (codeOf kind)))
+    ∷ (shape, not (eqb (getD packet 0 0) (packetCode kind)))
     ∷ (shape, not (eqb (getD packet 4 0) (valueSize kind)))
     ∷ (shape, ltb (lengthField packet) (leastLength kind))
     ∷ (shape, ltb (length packet) (lengthField packet))
@@ -81,75 +81,75 @@ readRows kind packet =
     ∷ (size, ltb longestName (lengthField packet - leastLength kind))
     ∷ []
 
--- the number for a packet to be read
-unfoldable pub readNumber : Kind → List ℕ → ℕ
-readNumber kind packet = firstOf (readRows kind packet)
+-- the code answered for a packet to be read
+unfoldable pub readCode : Kind → List ℕ → ℕ
+readCode kind packet = firstOf (readRows kind packet)
 
 -- a Challenge read: its value is its challenge
 unfoldable pub challengeRead : List ℕ → Challenge
 challengeRead packet =
-    let number : ℕ = readNumber kinds.Challenge packet in
-    onDone number
+    let code : ℕ = readCode kinds.Challenge packet in
+    onDone code
     (record { answer = done; identifier = getD packet 1 0; value = part headerLength challengeLength packet })
-    (record { answer = number; identifier = 0; value = replicate 16 0 })
+    (record { answer = code; identifier = 0; value = replicate 16 0 })
 
 -- a Response read: peer challenge and NT-Response by their places in the packet
 unfoldable pub responseRead : List ℕ → Response
 responseRead packet =
-    let number : ℕ = readNumber kinds.Response packet in
-    onDone number
+    let code : ℕ = readCode kinds.Response packet in
+    onDone code
     (record {
       answer = done;
       identifier = getD packet 1 0;
       «peer_challenge» = part headerLength challengeLength packet;
       «nt_response» = part 29 responseLength packet;
     })
-    (record { answer = number; identifier = 0; «peer_challenge» = replicate 16 0; «nt_response» = replicate 24 0 })
+    (record { answer = code; identifier = 0; «peer_challenge» = replicate 16 0; «nt_response» = replicate 24 0 })
 
 -- the name: "that part of the caller's packet", from the end of the value to the length field; "a refused packet gives the empty part"
 unfoldable pub nameOf : Kind → List ℕ → List ℕ
 nameOf kind packet =
-    onDone (readNumber kind packet) (part (leastLength kind) (lengthField packet - leastLength kind) packet) []
+    onDone (readCode kind packet) (part (leastLength kind) (lengthField packet - leastLength kind) packet) []
 
 -- where that part begins in the packet: behind the value; the empty part of a refused packet is its front
 unfoldable pub nameAt : Kind → List ℕ → ℕ
-nameAt kind packet = onDone (readNumber kind packet) (leastLength kind) 0
+nameAt kind packet = onDone (readCode kind packet) (leastLength kind) 0
 
 -- the place in memory so many octets behind another: a block, and an octet in it
-abbrev pub onward : ℕ → ℕ × ℕ → ℕ × ℕ
+abbrev pub onward : (n : ℕ) (place : ℕ × ℕ) → ℕ × ℕ
 onward n place = (place .0, n + place .1)
 
 -- what is asked of a packet to be written, with or without a wrong length in its value: "Packet writers: 3, 2"
-abbrev pub writeRows : Bool → List ℕ → List ℕ → List ℕ → List (ℕ × Bool)
+abbrev pub writeRows : (wrongValue : Bool) (packet name out : List ℕ) → List (ℕ × Bool)
 writeRows wrongValue packet name out =
     (size, wrongValue) ∷ (size, ltb longestName (length name)) ∷ (room, ltb (length out) (length packet)) ∷ []
 
--- the number for a packet to be written
-unfoldable pub writeNumber : Bool → List ℕ → List ℕ → List ℕ → ℕ
-writeNumber wrongValue packet name out = firstOf (writeRows wrongValue packet name out)
+-- the code answered for a packet to be written
+unfoldable pub writeCode : (wrongValue : Bool) (packet name out : List ℕ) → ℕ
+writeCode wrongValue packet name out = firstOf (writeRows wrongValue packet name out)
 
 -- the lent buffer, with the packet in front where it is written
-unfoldable pub writeOut : Bool → List ℕ → List ℕ → List ℕ → List ℕ
-writeOut wrongValue packet name out = onDone (writeNumber wrongValue packet name out) (written packet out) out
+unfoldable pub writeOut : (wrongValue : Bool) (packet name out : List ℕ) → List ℕ
+writeOut wrongValue packet name out = onDone (writeCode wrongValue packet name out) (written packet out) out
 
 -- a Challenge written
-unfoldable pub challengeNumber : ℕ → List ℕ → List ℕ → List ℕ → ℕ
-challengeNumber identifier challenge name out =
-    writeNumber (wrong challengeLength challenge) (packetOf kinds.Challenge identifier challenge name) name out
+unfoldable pub challengeCode : (identifier : ℕ) (challenge name out : List ℕ) → ℕ
+challengeCode identifier challenge name out =
+    writeCode (wrong challengeLength challenge) (packetOf kinds.Challenge identifier challenge name) name out
 
-unfoldable pub challengeOut : ℕ → List ℕ → List ℕ → List ℕ → List ℕ
+unfoldable pub challengeOut : (identifier : ℕ) (challenge name out : List ℕ) → List ℕ
 challengeOut identifier challenge name out =
     writeOut (wrong challengeLength challenge) (packetOf kinds.Challenge identifier challenge name) name out
 
 -- a Response written
-unfoldable pub responseNumber : ℕ → List ℕ → List ℕ → List ℕ → List ℕ → ℕ
-responseNumber identifier peer response name out =
-    writeNumber (wrong challengeLength peer || wrong responseLength response)
+unfoldable pub responseCode : (identifier : ℕ) (peer response name out : List ℕ) → ℕ
+responseCode identifier peer response name out =
+    writeCode (wrong challengeLength peer || wrong responseLength response)
     (packetOf kinds.Response identifier (responseValue peer response) name)
     name
     out
 
-unfoldable pub responseOut : ℕ → List ℕ → List ℕ → List ℕ → List ℕ → List ℕ
+unfoldable pub responseOut : (identifier : ℕ) (peer response name out : List ℕ) → List ℕ
 responseOut identifier peer response name out =
     writeOut (wrong challengeLength peer || wrong responseLength response)
     (packetOf kinds.Response identifier (responseValue peer response) name)

@@ -1,11 +1,12 @@
 // Challenge and Response packets (RFC 1994, section 4.1; RFC 2759, sections 3 and 4), read and written.
 ghost use mathlib.Core.Path.{_≡_};
 ghost use mathlib.Core.Bool.{false};
-ghost use Prim.Native.Nat.{_+_, _*_, _≤_};
+ghost use Prim.Native.Nat.{_≤_};
 ghost use lib.ListN.{length};
-ghost use Rattle.mschap_packets.specs.Packet.{codeOf, valueSize, leastLength, part, anySet, reserved, header as headerOf, packetOf, responseValue, readNumber, challengeRead, responseRead, nameOf, nameAt, onward, writeNumber, writeOut, challengeNumber, challengeOut, responseNumber, responseOut};
+ghost use Rattle.mschap_packets.specs.Packet.{packetCode, valueSize, leastLength, lengthField, part, anySet, reserved, header as headerOf, packetOf, responseValue, readCode, challengeRead, responseRead, nameOf, nameAt, onward, writeCode, writeOut, challengeCode, challengeOut, responseCode, responseOut};
 use octets::copy;
 use octets::copy_at;
+use octets::pair;
 
 // The octets in front of a packet's value: code, identifier, length and value size.
 const HEADER_LENGTH: usize = 5;
@@ -41,10 +42,10 @@ pub struct Response {
 pub fn read_challenge(packet: &[u8]) -> Challenge
     ensures { λ r. ⌜ r ≡ challengeRead (now (packet .entry)) ⌝ }
 {
-    let number = read_number(Kind::Challenge, packet);
-    if number != answer::DONE {
+    let code = read_code(Kind::Challenge, packet);
+    if code != answer::DONE {
         return Challenge {
-            answer: number,
+            answer: code,
             identifier: 0,
             value: [0u8; 16],
         };
@@ -60,10 +61,10 @@ pub fn read_challenge(packet: &[u8]) -> Challenge
 pub fn read_response(packet: &[u8]) -> Response
     ensures { λ r. ⌜ r ≡ responseRead (now (packet .entry)) ⌝ }
 {
-    let number = read_number(Kind::Response, packet);
-    if number != answer::DONE {
+    let code = read_code(Kind::Response, packet);
+    if code != answer::DONE {
         return Response {
-            answer: number,
+            answer: code,
             identifier: 0,
             peer_challenge: [0u8; 16],
             nt_response: [0u8; 24],
@@ -82,17 +83,17 @@ pub fn name(kind: Kind, packet: &[u8]) -> &[u8]
     ensures { λ r. ⌜ (now r ≡ nameOf kind (now (packet .entry)))
         × (r .ptr ≡ onward (nameAt kind (now (packet .entry))) (packet .entry .ptr)) ⌝ }
 {
-    if read_number(kind, packet) != answer::DONE {
+    if read_code(kind, packet) != answer::DONE {
         return &packet[..0];
     }
     let start = least_length(kind);
-    let end = joined(packet[2], packet[3]);
+    let end = length_field(packet);
     &packet[start..end]
 }
 
 // Writes a Challenge into the front of a lent buffer; refused with 3 for a wrong length, then with 2 for too little room.
 pub fn write_challenge(identifier: u8, challenge: &[u8], name: &[u8], out: &mut [u8]) -> u8
-    ensures { λ r. ⌜ (r ≡ challengeNumber identifier (now (challenge .entry)) (now (name .entry)) (now (out .entry)))
+    ensures { λ r. ⌜ (r ≡ challengeCode identifier (now (challenge .entry)) (now (name .entry)) (now (out .entry)))
         × (now (out .exit) ≡ challengeOut identifier (now (challenge .entry)) (now (name .entry)) (now (out .entry))) ⌝ }
 {
     if challenge.len() != CHALLENGE_LENGTH {
@@ -109,7 +110,7 @@ pub fn write_response(
     name: &[u8],
     out: &mut [u8],
 ) -> u8
-    ensures { λ r. ⌜ (r ≡ responseNumber identifier (now (peer .entry)) (now (response .entry)) (now (name .entry)) (now (out .entry)))
+    ensures { λ r. ⌜ (r ≡ responseCode identifier (now (peer .entry)) (now (response .entry)) (now (name .entry)) (now (out .entry)))
         × (now (out .exit) ≡ responseOut identifier (now (peer .entry)) (now (response .entry)) (now (name .entry)) (now (out .entry))) ⌝ }
 {
     if peer.len() != CHALLENGE_LENGTH {
@@ -123,8 +124,8 @@ pub fn write_response(
 }
 
 // The code of a packet.
-fn code(kind: Kind) -> u8
-    ensures { λ r. ⌜ r ≡ codeOf kind ⌝ }
+fn packet_code(kind: Kind) -> u8
+    ensures { λ r. ⌜ r ≡ packetCode kind ⌝ }
 {
     match kind {
         Kind::Challenge => 1,
@@ -149,28 +150,29 @@ fn least_length(kind: Kind) -> usize
     HEADER_LENGTH + value_size(kind) as usize
 }
 
-// A number of two octets.
-fn joined(high: u8, low: u8) -> usize
-    ensures { λ r. ⌜ r ≡ 256 * high + low ⌝ }
+// The length that a packet names.
+fn length_field(packet: &[u8]) -> usize
+    requires { ⌜ 4 ≤ length (now packet) ⌝ }
+    ensures { λ r. ⌜ r ≡ lengthField (now (packet .entry)) ⌝ }
 {
-    256 * (high as usize) + low as usize
+    pair(packet[2], packet[3]) as usize
 }
 
-// The number for a packet to be read.
-fn read_number(kind: Kind, packet: &[u8]) -> u8
-    ensures { λ r. ⌜ r ≡ readNumber kind (now (packet .entry)) ⌝ }
+// The code answered for a packet to be read.
+fn read_code(kind: Kind, packet: &[u8]) -> u8
+    ensures { λ r. ⌜ r ≡ readCode kind (now (packet .entry)) ⌝ }
 {
     let least = least_length(kind);
     if packet.len() < least {
         return answer::SHAPE;
     }
-    if packet[0] != code(kind) {
+    if packet[0] != packet_code(kind) {
         return answer::SHAPE;
     }
     if packet[4] != value_size(kind) {
         return answer::SHAPE;
     }
-    let length = joined(packet[2], packet[3]);
+    let length = length_field(packet);
     if length < least {
         return answer::SHAPE;
     }
@@ -245,7 +247,7 @@ fn response_value(peer: &[u8], response: &[u8]) -> [u8; 49]
 // Writes a packet with its value.
 fn write(kind: Kind, identifier: u8, value: &[u8], name: &[u8], out: &mut [u8]) -> u8
     requires { ⌜ length (now value) ≡ valueSize kind ⌝ }
-    ensures { λ r. ⌜ (r ≡ writeNumber false (packetOf kind identifier (now (value .entry)) (now (name .entry)))
+    ensures { λ r. ⌜ (r ≡ writeCode false (packetOf kind identifier (now (value .entry)) (now (name .entry)))
         (now (name .entry)) (now (out .entry)))
         × (now (out .exit) ≡ writeOut false (packetOf kind identifier (now (value .entry)) (now (name .entry)))
         (now (name .entry)) (now (out .entry))) ⌝ }
@@ -270,5 +272,5 @@ fn header(kind: Kind, identifier: u8, length: usize) -> [u8; 5]
 {
     let high = (length / 256 % 256) as u8;
     let low = (length % 256) as u8;
-    [code(kind), identifier, high, low, value_size(kind)]
+    [packet_code(kind), identifier, high, low, value_size(kind)]
 }

@@ -9,14 +9,14 @@ cast-high c = search needs
 cast-low : tie.Need-cast-low
 cast-low c = search needs
 
-code-requires : tie.Need-code-requires
-code-requires c κs = search needs
+packet-code-requires : tie.Need-packet-code-requires
+packet-code-requires c κs = search needs
 
 value-size-requires : tie.Need-value-size-requires
 value-size-requires c κs = search needs
 
 returns : tie.Need-returns
-returns c = header-laid _ _ _ (c .before .code .ensures) (c .value-size .ensures .0)
+returns c = header-laid _ _ _ (c .before .packet-code .ensures) (c .value-size .ensures .0)
 
 pub header-spec : {M : Type 1} → statement M
-header-spec = tie.close (tie.spec cast-high cast-low code-requires value-size-requires returns)
+header-spec = tie.close (tie.spec cast-high cast-low packet-code-requires value-size-requires returns)

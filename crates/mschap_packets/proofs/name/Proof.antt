@@ -10,15 +10,10 @@ use Rattle.mschap_packets.proofs.name.Tie as tie
 shaped : (p : tie.Else1) →
     let s = p .before .before .before .args in
     Shaped (s .kind) (s .packet .now)
-shaped p = read-done _ _ (sym (p .before .read-number .ensures) ∙ p .if1 .left) .0
+shaped p = read-done _ _ (sym (p .before .read-code .ensures) ∙ p .if1 .left) .0
 
-abbrev tested-at : tie.After-joined → tie.Else1
-tested-at p =
-    let least = p .before .before .before in
-    least .before
-
-read-number-requires : tie.Need-read-number-requires
-read-number-requires c κs = search needs
+read-code-requires : tie.Need-read-code-requires
+read-code-requires c κs = search needs
 
 slice-aggregate-result : tie.Need-slice-aggregate-result
 slice-aggregate-result c = search needs
@@ -26,57 +21,47 @@ slice-aggregate-result c = search needs
 returns : tie.Need-returns
 returns c =
     let tested = c .before in
-    name-refused _ _ _ (tested .before .read-number .ensures) (tested .if1 .taken)
+    name-refused _ _ _ (tested .before .read-code .ensures) (tested .if1 .taken)
 
 least-length-requires : tie.Need-least-length-requires
 least-length-requires c κs = search needs
 
-shared-slice-read-joined : tie.Need-shared-slice-read-joined
-shared-slice-read-joined c =
-    let shape = shaped (c .before .before) in
+length-field-requires : tie.Need-length-field-requires
+length-field-requires c κs =
+    let shape = shaped (c .before) in
     omega (arith, shape .least, shape .inside)
-
-shared-slice-read-joined-2 : tie.Need-shared-slice-read-joined-2
-shared-slice-read-joined-2 c =
-    let shape = shaped (c .before .before .before) in
-    omega (arith, shape .least, shape .inside)
-
-joined-requires : tie.Need-joined-requires
-joined-requires c κs = search needs
 
 sub-result : tie.Need-sub-result
 sub-result c =
-    let shape = shaped (tested-at c) in
+    let shape = shaped (c .before .before) in
     omega (arith, shape .least, shape .inside)
 
 part-result-start : tie.Need-part-result-start
 part-result-start c =
-    let shape = shaped (tested-at c) in
+    let shape = shaped (c .before .before) in
     omega (arith, shape .least, shape .inside)
 
 part-result-end : tie.Need-part-result-end
 part-result-end c =
-    let shape = shaped (tested-at c) in
+    let shape = shaped (c .before .before) in
     omega (arith, shape .least, shape .inside)
 
 returns-2 : tie.Need-returns-2
 returns-2 c =
     let length = c .before in
-    let least = length .before .before .before in
-    let tested = tested-at length in
-    name-done _ _ _ (tested .before .read-number .ensures) (tested .if1 .left) (least .least-length .ensures .0) (length .joined .ensures)
+    let least = length .before in
+    let tested = least .before in
+    name-done _ _ _ (tested .before .read-code .ensures) (tested .if1 .left) (least .least-length .ensures .0) (length .length-field .ensures)
 
 pub name-spec : {M : Type 1} → statement M
 name-spec =
     tie.close
     (tie.spec
-    read-number-requires
+    read-code-requires
     slice-aggregate-result
     returns
     least-length-requires
-    shared-slice-read-joined
-    shared-slice-read-joined-2
-    joined-requires
+    length-field-requires
     sub-result
     part-result-start
     part-result-end

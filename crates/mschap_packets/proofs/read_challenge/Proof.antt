@@ -11,13 +11,13 @@ use Rattle.mschap_packets.proofs.read_challenge.Tie as tie
 shaped : (p : tie.Else1) →
     let s = p .before .before .before .args in
     Shaped kinds.Challenge (s .packet .now)
-shaped p = read-done _ _ (sym (p .before .read-number .ensures) ∙ p .if1 .left) .0
+shaped p = read-done _ _ (sym (p .before .read-code .ensures) ∙ p .if1 .left) .0
 
-read-number-requires : tie.Need-read-number-requires
-read-number-requires c κs = search needs
+read-code-requires : tie.Need-read-code-requires
+read-code-requires c κs = search needs
 
 returns : tie.Need-returns
-returns c = challenge-refused _ (c .before .read-number .ensures) (c .if1 .taken)
+returns c = challenge-refused _ (c .before .read-code .ensures) (c .if1 .taken)
 
 shared-slice-read-t7 : tie.Need-shared-slice-read-t7
 shared-slice-read-t7 c =
@@ -32,9 +32,9 @@ challenge-in-requires c κs =
 returns-2 : tie.Need-returns-2
 returns-2 c =
     let tested = c .before .before in
-    challenge-done _ (tested .before .read-number .ensures) (tested .if1 .left) (c .challenge-in .ensures)
+    challenge-done _ (tested .before .read-code .ensures) (tested .if1 .left) (c .challenge-in .ensures)
 
 pub read-challenge-spec : {M : Type 1} → statement M
 read-challenge-spec =
     tie.close
-    (tie.spec read-number-requires returns shared-slice-read-t7 challenge-in-requires returns-2)
+    (tie.spec read-code-requires returns shared-slice-read-t7 challenge-in-requires returns-2)

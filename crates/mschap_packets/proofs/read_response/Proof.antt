@@ -11,13 +11,13 @@ use Rattle.mschap_packets.proofs.read_response.Tie as tie
 shaped : (p : tie.Else1) →
     let s = p .before .before .before .args in
     Shaped kinds.Response (s .packet .now)
-shaped p = read-done _ _ (sym (p .before .read-number .ensures) ∙ p .if1 .left) .0
+shaped p = read-done _ _ (sym (p .before .read-code .ensures) ∙ p .if1 .left) .0
 
-read-number-requires : tie.Need-read-number-requires
-read-number-requires c κs = search needs
+read-code-requires : tie.Need-read-code-requires
+read-code-requires c κs = search needs
 
 returns : tie.Need-returns
-returns c = response-refused _ (c .before .read-number .ensures) (c .if1 .taken)
+returns c = response-refused _ (c .before .read-code .ensures) (c .if1 .taken)
 
 shared-slice-read-t8 : tie.Need-shared-slice-read-t8
 shared-slice-read-t8 c =
@@ -38,13 +38,13 @@ returns-2 : tie.Need-returns-2
 returns-2 c =
     let challenge = c .before in
     let tested = challenge .before .before in
-    response-done _ (tested .before .read-number .ensures) (tested .if1 .left) (challenge .challenge-in .ensures) (c .response-in .ensures)
+    response-done _ (tested .before .read-code .ensures) (tested .if1 .left) (challenge .challenge-in .ensures) (c .response-in .ensures)
 
 pub read-response-spec : {M : Type 1} → statement M
 read-response-spec =
     tie.close
     (tie.spec
-    read-number-requires
+    read-code-requires
     returns
     shared-slice-read-t8
     challenge-in-requires
