@@ -63,10 +63,6 @@ value-laid {v₁} peer response e₁ e₂ hp hr =
     let laid : v₁ ≡ (peer ++ replicate 8 0) ++ replicate 25 0 = e₁ ∙ rw (all, hp, append-assoc) in
     append-more (peer ++ replicate 8 0) response 24 25 laid e₂ (sym front) (omega arith) ∙ rw hr
 
--- an order of numbers that are equal to others
-pub ordered : {a a′ b b′ : ℕ} → a ≡ a′ → b ≡ b′ → a ≤ b → a′ ≤ b′
-ordered ea eb h = omega arith
-
 -- a packet's tests, one by one
 pub read-short : {least : ℕ} (kind : Kind) (packet : List ℕ) → least ≡ leastLength kind → length packet < least
     → shape ≡ readCode kind packet

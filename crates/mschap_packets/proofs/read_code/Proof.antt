@@ -1,7 +1,8 @@
-use mathlib.Core.Path.{refl, sym, _∙_}
+use mathlib.Core.Path.{sym, _∙_}
+use native.Mathlib.Omega.{arith}
 use borrow.Author.Tests.{lt-ltb, le-ltb}
 use borrow.Author.Needs.{needs}
-use Rattle.mschap_packets.proofs.Laws.{ordered, read-short, read-packet-code, read-size, read-beyond, read-reserved}
+use Rattle.mschap_packets.proofs.Laws.{read-short, read-packet-code, read-size, read-beyond, read-reserved}
 use Rattle.mschap_packets.specs.Laws.{Shaped, read-least, read-name}
 use Rattle.mschap_packets.proofs.read_code.Statement.{statement}
 use Rattle.mschap_packets.proofs.read_code.Tie as tie
@@ -40,8 +41,8 @@ shaped p =
     record {
       code = coded .if2 .left ∙ code .packet-code .ensures;
       size = sized .if3 .left ∙ size .value-size .ensures .0;
-      least = ordered (least .least-length .ensures .0) (length .length-field .ensures) (inside .before .if4 .left);
-      inside = ordered (length .length-field .ensures) refl (inside .if5 .left);
+      least = omega (arith, least .least-length .ensures .0, length .length-field .ensures, inside .before .if4 .left);
+      inside = omega (arith, length .length-field .ensures, inside .if5 .left);
       clear = sym (set .reserved-set .ensures) ∙ p .if6 .left;
     }
 
