@@ -55,28 +55,12 @@ fn link(n: Numbers, a: &[u8], b: &[u8]) -> Link {
     }
 }
 
-// Key changes and a link record as octets: two of changes, the strength in bits, both keys, and two of count.
+// Key changes, two octets, and a link record as its own.
 fn link_fields(changes: u16, link: Link) -> [u8; 37] {
-    let strength = link.strength;
-    let start = link.start;
-    let session = link.session;
-    let count = link.count;
+    let link_record = mppe_record::record_octets(link);
     let mut fields = [0u8; 37];
     fields[0] = low(changes as usize / 256);
     fields[1] = low(changes as usize);
-    fields[2] = bits(strength);
-    fields[35] = low(count as usize / 256);
-    fields[36] = low(count as usize);
-    octets::copy_at(&start, 3, &mut fields);
-    octets::copy_at(&session, 19, &mut fields);
+    octets::copy_at(&link_record, 2, &mut fields);
     fields
-}
-
-// A strength in bits.
-fn bits(strength: Strength) -> u8 {
-    match strength {
-        Strength::Bits40 => 40,
-        Strength::Bits56 => 56,
-        Strength::Bits128 => 128,
-    }
 }

@@ -1,24 +1,22 @@
 -- The ways out of the calls.
 use mathlib.Core.Path.{_≡_, refl, sym, ap, _∙_}
-use mathlib.Core.Bool.{Bool, true, false, not, false≢true}
-use mathlib.Core.List.{List, [], _∷_, _++_, append-nil}
-use Prim.Native.Nat.{ℕ, zero, suc, _+_, _*_, _-_, _/_, _%_, _^_, _≤_, _<_}
+use mathlib.Core.Bool.{Bool, true, false, not}
+use mathlib.Core.List.{List, [], append-nil}
+use Prim.Native.Nat.{ℕ, zero, suc, _-_, _%_, _≤_, _<_}
 use native.Mathlib.Nat.{suc-ne-zero}
 use native.Mathlib.Omega.{arith}
 use lib.Dec.{eqb, ltb}
-use lib.ListN.{length, take, drop, getD, replicate, length-append, drop-of-length-le}
+use lib.ListN.{length, take, replicate, drop-of-length-le}
 use lib.Seq.{take-all, take-at}
-use borrow.Author.Tests.{eq-eqb, ne-eqb, eqb-true, lt-ltb, le-ltb}
-use Rattle.answer.specs.Answer.{done, room, size, notRecord, strength, pick, firstOf, onDone, wrong}
-use Rattle.octets.specs.Octets.{written, writtenAt, bigEndian}
-use Rattle.octets.proofs.Laws.{append-more}
+use borrow.Author.Tests.{eq-eqb, lt-ltb, le-ltb}
+use Rattle.answer.specs.Answer.{done, room, size, strength, pick, firstOf, onDone, wrong}
+use Rattle.octets.specs.Octets.{written}
 use Rattle.mschap.specs.declared.Hash.{Hash}
 use Rattle.mschap.specs.Lengths.{longestPassword, responseLength}
 use Rattle.mschap.specs.Mschap.{passwordHash, hashHash}
 use Rattle.mschap.specs.Answers.{hashAnswer, passwordHashAnswer, hashHashAnswer}
 use Rattle.mschap.specs.Laws.{passwordHash-length, hashHash-length, hashHash-done}
 use Rattle.mppe_keys.specs.declared.Strength.{Strength}
-use Rattle.mppe_keys.specs.declared.Strength.the-variants.{Bits40, Bits56, Bits128}
 use Rattle.mppe_keys.specs.declared.Role.{Role}
 use Rattle.mppe_keys.specs.declared.Direction.{Direction}
 use Rattle.mppe_keys.specs.declared.Key.{Key}
@@ -35,9 +33,12 @@ use Rattle.mppe.specs.declared.Link.{Link}
 use Rattle.mppe.specs.declared.NewLink.{NewLink}
 use Rattle.mppe.specs.declared.Outcome.{Outcome}
 use Rattle.mppe.specs.Link.{Result, newLink}
+use Rattle.mppe_record.specs.declared.RecordRead.{RecordRead}
+use Rattle.mppe_record.specs.Record.{strengthOf, noStrength, recordLength, recordOctets, recordRead}
+use Rattle.mppe_record.specs.Laws.{read-length}
 use Rattle.host.specs.declared.Reply.{Reply}
 use Rattle.host.specs.declared.Opened.{Opened}
-use Rattle.host.specs.Host.{Given, Linked, given, roleOf, directionOf, strengthOf, noStrength, startKeyFrom, masterKeyFrom, credentialRows, startKeyGiven, choiceOctets, optionGiven, optionReply, choiceReply, replyOf, replyOctets, recordLength, recordOctets, recordIn, noRecord, newLinkGiven, linked, linkedBy, openedBy}
+use Rattle.host.specs.Host.{Given, Linked, given, roleOf, directionOf, startKeyFrom, masterKeyFrom, credentialRows, startKeyGiven, choiceOctets, optionGiven, optionReply, choiceReply, replyOf, replyOctets, newLinkGiven, linkedBy, unchanged, linked, openedBy}
 
 -- a call's number and the lent buffer after it are those of a definition ..
 abbrev pub Gave : ℕ → List ℕ → Given → Type 0
@@ -66,19 +67,6 @@ given-done code result out e h w = rw (e, le-ltb (length out) (length result) h)
 pub handed : {A : Type 0} (number : A → ℕ) (octets : A → List ℕ) {got said : A} {r : ℕ} {out′ : List ℕ} (out : List ℕ) → got ≡ said
     → Gave r out′ (given (number got) (octets got) out) → Gave r out′ (given (number said) (octets said) out)
 handed number octets out e w = told (ap (λ a. given (number a) (octets a) out) e) w
-
--- the strength of a number of bits
-pub bits-40 : (bits : ℕ) → bits ≡ 40 → Bits40 ≡ strengthOf bits
-bits-40 bits e = rw (eq-eqb bits 40 e)
-
-pub bits-56 : (bits : ℕ) → (bits ≡ 40 → ⊥) → bits ≡ 56 → Bits56 ≡ strengthOf bits
-bits-56 bits h e = rw (ne-eqb bits 40 h, eq-eqb bits 56 e)
-
-pub bits-128 : (bits : ℕ) → (bits ≡ 40 → ⊥) → (bits ≡ 56 → ⊥) → Bits128 ≡ strengthOf bits
-bits-128 bits h h′ = rw (ne-eqb bits 40 h, ne-eqb bits 56 h′)
-
-pub none-told : {s : Strength} {b : ℕ} (bits : ℕ) → s ≡ strengthOf bits → b ≡ bitsOf s → not (eqb bits b) ≡ noStrength bits
-none-told bits es eb = rw (eb, es)
 
 -- a number that is no strength
 pub none-first : {none : Bool} (rest : ℕ) → none ≡ true → pick none strength rest ≡ strength
@@ -223,84 +211,32 @@ unfolding given
 reply-refused zero out e = rw (le-ltb (length out) 0 (omega arith)) (e, refl)
 reply-refused (suc n) out e = (e, refl)
 
--- octets that hold no record, and what is known of others
-pub not-long : (octets : List ℕ) → (length octets ≡ recordLength → ⊥) → true ≡ noRecord octets
-unfolding noRecord
-not-long octets h = rw (ne-eqb (length octets) recordLength h)
+-- a record written over the octets of another
+pub record-put : {octets out′ : List ℕ} (l : Link) (out : List ℕ) → octets ≡ recordOctets l → out′ ≡ written (take (length out) octets) out
+    → length octets ≡ recordLength → length out ≡ recordLength → out′ ≡ recordOctets l
+record-put {octets} l out e w h h′ =
+    w ∙ rw (take-all (length out) octets (omega arith), drop-of-length-le out {i = length octets} (omega arith), append-nil) e
 
-pub long : {none : Bool} (octets : List ℕ) → length octets ≡ recordLength → none ≡ noStrength (getD octets 0 0) → none ≡ noRecord octets
-unfolding noRecord
-long octets h e = rw (eq-eqb (length octets) recordLength h) e
-
-pub held-length : {none : Bool} (octets : List ℕ) → none ≡ noRecord octets → none ≡ false → length octets ≡ recordLength
-unfolding noRecord
-held-length octets e h = go (eqb (length octets) recordLength) refl (sym h ∙ e)
-  where
-    go : (t : Bool) → eqb (length octets) recordLength ≡ t → false ≡ pick t (noStrength (getD octets 0 0)) true
-        → length octets ≡ recordLength
-    go true q z = eqb-true (length octets) recordLength q
-    go false q z = absurd (false≢true z)
-
--- the record that octets hold
-pub record-read : {s : Strength} {start session : List ℕ} {count : ℕ} (octets : List ℕ) → s ≡ strengthOf (getD octets 0 0)
-    → start ≡ take 16 (drop 1 octets)
-    → session ≡ take 16 (drop 17 octets) → count ≡ getD octets 33 0 * 256 + getD octets 34 0
-    → _≡_ {A = Link} (record { strength = s; start = start; session = session; count = count }) (recordIn octets)
-unfolding recordIn
-record-read octets es eb ek ec = rw (es, eb, ek, ec)
-
--- a key's places copied
-pub places-copied : {r : List ℕ} (key : List ℕ) → r ≡ written (take 16 key) (replicate 16 0) → length key ≡ 16 → r ≡ key
-places-copied key e h = e ∙ rw (take-all 16 key (omega arith), h, append-nil)
-
--- the octets of a record, one part behind the other
-two-octets : (n : ℕ) → n < 65536 → n / 256 ∷ n % 256 ∷ [] ≡ bigEndian 2 n
-two-octets n h =
-    let high : n / 256 ^ 1 % 256 ≡ n / 256 = omega arith in
-    let low : n / 256 ^ 0 % 256 ≡ n % 256 = omega arith in
-    rw (high, low)
-
-pub record-laid : {b : ℕ} {t₁ t₂ t₃ t₄ : List ℕ} (l : Link) → b ≡ bitsOf (l .strength)
-    → t₁ ≡ writtenAt 0 (take 35 (b ∷ [])) (replicate 35 0)
-    → t₂ ≡ writtenAt 1 (take (length t₁ - 1) (l .start)) t₁ → t₃ ≡ writtenAt 17 (take (length t₂ - 17) (l .session)) t₂
-    → t₄ ≡ writtenAt 33 (take (length t₃ - 33) (l .count / 256 ∷ l .count % 256 ∷ [])) t₃
-    → length (l .start) ≡ 16 → length (l .session) ≡ 16 → l .count < 65536 → t₄ ≡ recordOctets l
-unfolding recordOctets
-record-laid {b} l eb e₁ e₂ e₃ e₄ hs hk hc =
-    let g₁ = append-more [] (b ∷ []) 0 35 refl e₁ refl (omega arith) in
-    let g₂ = append-more (b ∷ []) (l .start) 1 34 g₁ e₂ refl (omega arith) in
-    let g₃ = append-more (b ∷ l .start) (l .session) 17 (34 - length (l .start)) g₂ e₃ (omega arith) (omega arith) in
-    let both : length ((b ∷ l .start) ++ l .session) ≡ 33 = length-append (b ∷ l .start) (l .session) ∙ omega arith in
-    let left : ℕ = 34 - length (l .start) - length (l .session) in
-    let last : List ℕ = l .count / 256 ∷ l .count % 256 ∷ [] in
-    let g₄ = append-more ((b ∷ l .start) ++ l .session) last 33 left g₃ e₄ (sym both) (omega arith) in
-    let all : left - 2 ≡ 0 = omega arith in
-    let none : replicate {A = ℕ} (left - 2) 0 ≡ [] = ap (λ n. replicate {A = ℕ} n 0) all in
-    let front : List ℕ = ((b ∷ l .start) ++ l .session) ++ last in
-    g₄ ∙ ap (λ z. front ++ z) none ∙ append-nil front ∙ rw (eb, two-octets (l .count) hc)
-
--- the record of a call written back
-pub record-put : {octets out′ : List ℕ} {r : ℕ} (code : ℕ) (l : Link) (out : List ℕ) → octets ≡ recordOctets l
-    → Gave r out′ (given code octets out) → length octets ≡ recordLength → length out ≡ recordLength
-    → out′ ≡ onDone code (recordOctets l) out
-unfolding given
-record-put {octets} zero l out e w h h′ =
-    w .1 ∙ rw (le-ltb (length out) (length octets) (omega arith), drop-of-length-le out {i = length octets} (omega arith), append-nil, e)
-record-put (suc n) l out e w h h′ = w .1
+-- octets that hold a record are 35
+pub held-length : {read : RecordRead} (octets : List ℕ) → read ≡ recordRead octets → read .answer ≡ done → length octets ≡ recordLength
+held-length octets e h = read-length octets (sym (ap (λ (r : RecordRead). r .answer) e) ∙ h)
 
 -- a call on the record in lent octets: they hold none, they hold one
-pub linked-none : {none : Bool} (call : Link → Result) (octets out : List ℕ) → none ≡ noRecord octets → none ≡ true
-    → _≡_ {A = Linked} (record { number = notRecord; changed = 0; octets = octets; buffer = out }) (linked call octets out)
+pub linked-none : {read : RecordRead} (call : Link → Result) (octets out : List ℕ) → read ≡ recordRead octets → (read .answer ≡ done → ⊥)
+    → unchanged (read .answer) octets out ≡ linked call octets out
 unfolding linked
-linked-none call octets out e h = rw (sym e ∙ h)
+linked-none {read} call octets out e h = rw (← e) (go (read .answer) h)
+  where
+    go : (code : ℕ) → (code ≡ done → ⊥) → unchanged code octets out ≡ onDone code (linkedBy (call (read .link))) (unchanged code octets out)
+    go zero h = absurd (h refl)
+    go (suc n) h = refl
 
-pub linked-made : {none : Bool} {l : Link} {made : Outcome} {octets′ out′ : List ℕ} (call : Link → Result) (octets out : List ℕ)
-    → none ≡ noRecord octets
-    → none ≡ false → l ≡ recordIn octets → (made ≡ call l .outcome) × (out′ ≡ call l .buffer)
-    → octets′ ≡ onDone (made .answer) (recordOctets (made .link)) octets
+pub linked-made : {read : RecordRead} {made : Outcome} {octets′ out′ : List ℕ} (call : Link → Result) (octets out : List ℕ)
+    → read ≡ recordRead octets → read .answer ≡ done → (made ≡ call (read .link) .outcome) × (out′ ≡ call (read .link) .buffer)
+    → octets′ ≡ recordOctets (made .link)
     → _≡_ {A = Linked} (record { number = made .answer; changed = made .changes; octets = octets′; buffer = out′ }) (linked call octets out)
-unfolding linked linkedBy
-linked-made call octets out e h el w eo = rw (sym e ∙ h, eo, w .0, w .1, el)
+unfolding linked
+linked-made call octets out e h w eo = rw (← e, h, eo, w .0, w .1)
 
 -- what seal and open tell of it
 pub seal-told : {l l′ : Linked} → l ≡ l′ → (l .number ≡ l′ .number) × (l .octets ≡ l′ .octets) × (l .buffer ≡ l′ .buffer)

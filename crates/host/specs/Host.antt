@@ -1,11 +1,11 @@
 -- What the calls from C give: each is the call under it, said over numbers and octets (01, "Which form goes where").
-use mathlib.Core.Bool.{Bool, true, false, not}
+use mathlib.Core.Bool.{Bool, true, false}
 use mathlib.Core.List.{List, [], _∷_, _++_}
 use Prim.Native.Nat.{ℕ}
-use lib.Dec.{eqb, ltb}
-use lib.ListN.{length, take, drop, getD}
-use Rattle.answer.specs.Answer.{room, size, notRecord, strength, pick, firstOf, onDone, wrong}
-use Rattle.octets.specs.Octets.{bigEndian, written}
+use lib.Dec.{ltb}
+use lib.ListN.{length}
+use Rattle.answer.specs.Answer.{room, size, strength, pick, firstOf, onDone, wrong}
+use Rattle.octets.specs.Octets.{written}
 use Rattle.mschap.specs.declared.Checked.{Checked}
 use Rattle.mschap.specs.declared.NtResponse.{NtResponse}
 use Rattle.mschap.specs.declared.AuthenticatorString.{AuthenticatorString}
@@ -13,7 +13,6 @@ use Rattle.mschap.specs.Lengths.{responseLength}
 use Rattle.mschap.specs.Mschap.{passwordHash, hashHash}
 use Rattle.mschap.specs.Answers.{passwordRows, ntResponseAnswer, authenticatorStringAnswer}
 use Rattle.mppe_keys.specs.declared.Strength.{Strength}
-use Rattle.mppe_keys.specs.declared.Strength.the-variants.{Bits40, Bits56, Bits128}
 use Rattle.mppe_keys.specs.declared.Role.{Role}
 use Rattle.mppe_keys.specs.declared.Role.the-variants.{Client, Server}
 use Rattle.mppe_keys.specs.declared.Direction.{Direction}
@@ -26,7 +25,9 @@ use Rattle.ccp.specs.declared.Reply.the-variants.{Accept, CounterOffer, Refused
 use Rattle.ccp.specs.Option.{optionOctets, only}
 use Rattle.ccp.specs.Answers.{replyAnswer, numberOf}
 use Rattle.mppe.specs.declared.Link.{Link}
-use Rattle.mppe.specs.Link.{Result, longestPlain, pairAt, newLink, sealResult, openResult}
+use Rattle.mppe.specs.Link.{Result, longestPlain, newLink, sealResult, openResult}
+use Rattle.mppe_record.specs.declared.RecordRead.{RecordRead}
+use Rattle.mppe_record.specs.Record.{strengthOf, noStrength, recordOctets, recordRead}
 use Rattle.sstp.specs.declared.Key.{Key}
 use Rattle.sstp.specs.Binding.{baseKeyAnswer, bindingKeyAnswer}
 use Rattle.host.specs.declared.Check.{Check}
@@ -79,14 +80,6 @@ bindingKeyGiven material out =
     let a : Key = bindingKeyAnswer material in
     given (a .answer) (a .octets) out
 
--- the strength of a number of bits, where it is one
-abbrev pub strengthOf : ℕ → Strength
-strengthOf bits = pick (eqb bits 40) Bits40 (pick (eqb bits 56) Bits56 Bits128)
-
--- a number that is the bits of no strength
-abbrev pub noStrength : ℕ → Bool
-noStrength bits = not (eqb bits (bitsOf (strengthOf bits)))
-
 -- the start key from credentials: password hash, hash-hash, master key, start key
 unfoldable pub masterKeyFrom : List ℕ → List ℕ → List ℕ
 masterKeyFrom password response = masterKey (hashHash (passwordHash password)) response
@@ -133,28 +126,6 @@ optionGiven option allowed out = given (numberOf (replyAnswer option allowed)) (
 unfoldable pub optionReply : List ℕ → Strengths → List ℕ → Reply
 optionReply option allowed out = replyOf (replyAnswer option allowed) (optionGiven option allowed out .number)
 
--- a link record in octets: "strength, start key, session key, last count; 16 places a key"; the strength in bits, the count's
--- highest octet first
-abbrev pub recordLength : ℕ
-recordLength = 35
-
-unfoldable pub recordOctets : Link → List ℕ
-recordOctets l = bitsOf (l .strength) ∷ l .start ++ l .session ++ bigEndian 2 (l .count)
-
--- the record that octets hold, where they hold one
-unfoldable pub recordIn : List ℕ → Link
-recordIn octets =
-    record {
-      strength = strengthOf (getD octets 0 0);
-      start = take 16 (drop 1 octets);
-      session = take 16 (drop 17 octets);
-      count = pairAt 33 octets;
-    }
-
--- octets that hold none: they are not 35, or the first is no strength
-unfoldable pub noRecord : List ℕ → Bool
-noRecord octets = pick (eqb (length octets) recordLength) (noStrength (getD octets 0 0)) true
-
 -- a new link: 8 where the number is no strength (house), before all else; "Start key: 16 at 128 bits, else 8"
 unfoldable pub newLinkGiven : ℕ → List ℕ → List ℕ → Given
 newLinkGiven bits start out =
@@ -168,21 +139,25 @@ pub record Linked : Type 0 where
   pub octets : List ℕ
   pub buffer : List ℕ
 
--- the record is written back where the call answers 0
-unfoldable pub linkedBy : Result → List ℕ → Linked
-linkedBy r octets =
+-- a result with its record as octets
+abbrev pub linkedBy : Result → Linked
+linkedBy r =
     record {
       number = r .outcome .answer;
       changed = r .outcome .changes;
-      octets = onDone (r .outcome .answer) (recordOctets (r .outcome .link)) octets;
+      octets = recordOctets (r .outcome .link);
       buffer = r .buffer;
     }
 
--- 7 where the octets hold no record
+-- "hands back the record given and change[s] no lent octet"
+abbrev pub unchanged : ℕ → List ℕ → List ℕ → Linked
+unchanged number octets out = record { number = number; changed = 0; octets = octets; buffer = out }
+
+-- 7 where the octets hold no record; otherwise the call on the record that they hold, and the record that it hands back written over them
 unfoldable pub linked : (Link → Result) → List ℕ → List ℕ → Linked
 linked call octets out =
-    pick (noRecord octets) (record { number = notRecord; changed = 0; octets = octets; buffer = out })
-    (linkedBy (call (recordIn octets)) octets)
+    let read : RecordRead = recordRead octets in
+    onDone (read .answer) (linkedBy (call (read .link))) (unchanged (read .answer) octets out)
 
 unfoldable pub sealLinked : List ℕ → List ℕ → List ℕ → Linked
 sealLinked octets plain out = linked (λ l. sealResult longestPlain l plain out) octets out

@@ -1,63 +1,87 @@
--- What follows from the definitions alone: numbers of bits and strengths, a record written and read back, and a call on its octets.
+-- What follows from the definitions alone: calls on the octets of a record, and calls that are refused.
 use mathlib.Core.Path.{_≡_, refl, sym, ap, _∙_}
-use mathlib.Core.Bool.{false}
-use mathlib.Core.List.{List, _++_, append-assoc}
-use Prim.Native.Nat.{ℕ, _/_, _%_, _^_, _<_}
+use mathlib.Core.Bool.{Bool, true, false}
+use mathlib.Core.Logic.{_≢_}
+use mathlib.Core.List.{List, append-nil}
+use Prim.Native.Nat.{ℕ, zero, suc}
 use native.Mathlib.Omega.{arith}
-use lib.ListN.{length, take, drop, getD, length-append}
-use lib.Seq.{take-at, drop-at, getD-drop}
-use Rattle.octets.specs.Octets.{bigEndian}
+use lib.ListN.{length, drop-of-length-le}
+use borrow.Author.Tests.{le-ltb}
+use Rattle.answer.specs.Answer.{done, strength, pick, onDone}
 use Rattle.mppe_keys.specs.declared.Strength.{Strength}
-use Rattle.mppe_keys.specs.declared.Strength.the-variants.{Bits40, Bits56, Bits128}
-use Rattle.mppe_keys.specs.Keys.{bitsOf}
 use Rattle.mppe.specs.declared.Link.{Link}
-use Rattle.mppe.specs.Link.{Result, pairAt}
-use Rattle.host.specs.Host.{strengthOf, noStrength, recordLength, recordOctets, recordIn, noRecord, linked, linkedBy}
+use Rattle.mppe.specs.Link.{Result, longestPlain, newLink, newLinkCode, refusal, sealCode, sealResult, openCode, openResult}
+use Rattle.mppe_record.specs.Record.{strengthOf, noStrength, recordLength, recordOctets, recordRead}
+use Rattle.mppe_record.specs.Laws.{Sized, Octets, recordOctets-length, reads-back, writes-back, new-sized}
+use Rattle.host.specs.Host.{Linked, given, newLinkGiven, linkedBy, unchanged, linked, sealLinked, openLinked}
 
--- a strength's bits are its number
-pub bits-back : (s : Strength) → strengthOf (bitsOf s) ≡ s
-bits-back Bits40 = refl
-bits-back Bits56 = refl
-bits-back Bits128 = refl
-
-pub bits-known : (s : Strength) → noStrength (bitsOf s) ≡ false
-bits-known Bits40 = refl
-bits-known Bits56 = refl
-bits-known Bits128 = refl
-
--- the octets of a record: their number ..
-pub recordOctets-length : (l : Link) → length (l .start) ≡ 16 → length (l .session) ≡ 16 → length (recordOctets l) ≡ recordLength
-unfolding recordOctets
-recordOctets-length l hs hk = simp length-append (omega arith)
-
--- .. they hold a record ..
-first-known : (l : Link) → noStrength (getD (recordOctets l) 0 0) ≡ false
-unfolding recordOctets
-first-known l = bits-known (l .strength)
-
-pub recordOctets-hold : (l : Link) → length (l .start) ≡ 16 → length (l .session) ≡ 16 → noRecord (recordOctets l) ≡ false
-unfolding noRecord
-recordOctets-hold l hs hk = rw (recordOctets-length l hs hk) (first-known l)
-
--- .. and it is the same one
-pub recordIn-back : (l : Link) → length (l .start) ≡ 16 → length (l .session) ≡ 16 → l .count < 65536 → recordIn (recordOctets l) ≡ l
-unfolding recordIn recordOctets
-recordIn-back l hs hk hc =
-    let tail : List ℕ = bigEndian 2 (l .count) in
-    let both : length (l .start ++ l .session) ≡ 32 = length-append (l .start) (l .session) ∙ omega arith in
-    let parts : l .start ++ l .session ++ tail ≡ l .start ++ (l .session ++ tail) = append-assoc (l .start) (l .session) tail in
-    let start : take 16 (l .start ++ l .session ++ tail) ≡ l .start = ap (take 16) parts ∙ take-at (l .start) (l .session ++ tail) 16 hs in
-    let behind = ap (drop 16) parts ∙ drop-at (l .start) (l .session ++ tail) 16 hs in
-    let session : take 16 (drop 16 (l .start ++ l .session ++ tail)) ≡ l .session = ap (take 16) behind ∙ take-at (l .session) tail 16 hk in
-    let last : drop 32 (l .start ++ l .session ++ tail) ≡ tail = drop-at (l .start ++ l .session) tail 32 both in
-    let all : List ℕ = recordOctets l in
-    let high : getD all 33 0 ≡ l .count / 256 ^ 1 % 256 = sym (getD-drop 33 all 0 0) ∙ ap (λ t. getD t 0 0) last in
-    let low : getD all 34 0 ≡ l .count / 256 ^ 0 % 256 = sym (getD-drop 33 all 1 0) ∙ ap (λ t. getD t 1 0) last in
-    let count : pairAt 33 all ≡ l .count = rw (high, low) (omega arith) in
-    rw (bits-back (l .strength), start, session, count)
-
--- so a call on the octets of a record is the call on that record
-pub linked-on : (call : Link → Result) (l : Link) (out : List ℕ) → length (l .start) ≡ 16 → length (l .session) ≡ 16 → l .count < 65536
-    → linked call (recordOctets l) out ≡ linkedBy (call l) (recordOctets l)
+-- a call on the octets of a record is the call on that record
+pub linked-on : (call : Link → Result) (l : Link) (out : List ℕ) → Sized l → linked call (recordOctets l) out ≡ linkedBy (call l)
 unfolding linked
-linked-on call l out hs hk hc = rw (recordOctets-hold l hs hk, recordIn-back l hs hk hc)
+linked-on call l out h = rw (reads-back l h)
+
+-- "Refusals 1 to 9 hand back the record given and change no lent octet": of a call on records ..
+abbrev pub Refuses : (Link → Result) → List ℕ → Type 0
+Refuses call out = (l : Link) → call l .outcome .answer ≢ done → call l ≡ refusal (call l .outcome .answer) l out
+
+-- .. and so of the call on the record in lent octets
+pub linked-refused : (call : Link → Result) (octets out : List ℕ) → Refuses call out → Octets octets → linked call octets out .number ≢ done
+    → linked call octets out ≡ unchanged (linked call octets out .number) octets out
+unfolding linked
+linked-refused call octets out refuses all = go (recordRead octets .answer) refl
+  where
+    held : Link
+    held = recordRead octets .link
+
+    made : ℕ → Linked
+    made code = onDone code (linkedBy (call held)) (unchanged code octets out)
+
+    go : (code : ℕ) → recordRead octets .answer ≡ code → made code .number ≢ done → made code ≡ unchanged (made code .number) octets out
+    go zero e not0 =
+        ap linkedBy (refuses held not0) ∙ ap (λ o. unchanged (call held .outcome .answer) o out) (writes-back octets all e)
+    go (suc n) e not0 = refl
+
+-- seal and open are such calls
+refuses : (code : ℕ) (r : Result) (l : Link) (out : List ℕ) → r .outcome .answer ≡ done → onDone code r (refusal code l out) .outcome .answer ≢ done
+    → onDone code r (refusal code l out) ≡ refusal (onDone code r (refusal code l out) .outcome .answer) l out
+refuses zero r l out e not0 = absurd (not0 e)
+refuses (suc n) r l out e not0 = refl
+
+pub seal-refused : (octets plain out : List ℕ) → Octets octets → sealLinked octets plain out .number ≢ done
+    → sealLinked octets plain out ≡ unchanged (sealLinked octets plain out .number) octets out
+unfolding sealLinked
+seal-refused octets plain out = linked-refused (λ l. sealResult longestPlain l plain out) octets out each
+  where
+    each : Refuses (λ l. sealResult longestPlain l plain out) out
+    each l = unfold sealResult in refuses (sealCode longestPlain l plain (length out)) _ l out refl
+
+pub open-refused : (octets packet out : List ℕ) → Octets octets → openLinked octets packet out .number ≢ done
+    → openLinked octets packet out ≡ unchanged (openLinked octets packet out .number) octets out
+unfolding openLinked
+open-refused octets packet out = linked-refused (λ l. openResult longestPlain l packet out) octets out each
+  where
+    each : Refuses (λ l. openResult longestPlain l packet out) out
+    each l = unfold openResult in refuses (openCode longestPlain l packet (length out)) _ l out refl
+
+-- a result that fills the lent buffer
+pub given-whole : (code : ℕ) (result out : List ℕ) → length result ≡ length out → given code result out .number ≡ done
+    → (code ≡ done) × (given code result out .buffer ≡ result)
+unfolding given
+given-whole zero result out h ok =
+    rw (le-ltb (length out) (length result) (omega arith)) (refl, rw (drop-of-length-le out {i = length result} (omega arith), append-nil))
+given-whole (suc n) result out h ok = absurd (omega arith)
+
+-- a new link that answered 0 into 35 lent octets leaves the octets of its record there
+pub new-whole : (bits : ℕ) (start lent : List ℕ) → length lent ≡ recordLength → newLinkGiven bits start lent .number ≡ done
+    → (newLink (strengthOf bits) start .answer ≡ done) × (newLinkGiven bits start lent .buffer ≡ recordOctets (newLink (strengthOf bits) start .link))
+unfolding newLinkGiven newLink
+new-whole bits start lent h ok =
+    let s : Strength = strengthOf bits in
+    let l : Link = newLink s start .link in
+    let all : length (recordOctets l) ≡ length lent = recordOctets-length l (new-sized s start) ∙ sym h in
+    let (code, whole) = given-whole (pick (noStrength bits) strength (newLinkCode s start)) (recordOctets l) lent all ok in
+    (behind (noStrength bits) (newLinkCode s start) code, whole)
+  where
+    behind : (t : Bool) (n : ℕ) → pick t strength n ≡ done → n ≡ done
+    behind true n e = absurd (omega arith)
+    behind false n e = e

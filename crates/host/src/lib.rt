@@ -1,31 +1,24 @@
 // What a concentrator written in C calls, over numbers and octets; include/udukemb.h says the same to C.
 ghost use mathlib.Core.Path.{_≡_};
-ghost use Prim.Native.Nat.{_+_};
 ghost use lib.ListN.{length};
 ghost use mathlib.Core.Bool.{false};
-ghost use Rattle.answer.specs.Answer.{done, firstOf, onDone};
+ghost use Rattle.answer.specs.Answer.{done, firstOf};
 ghost use Rattle.mschap.specs.Answers.{checkResponseAnswer, checkAuthenticatorAnswer};
-ghost use Rattle.mppe_keys.specs.Keys.{bitsOf};
 ghost use Rattle.mppe_keys.specs.Answers.{keyAnswer};
-ghost use Rattle.host.specs.Host.{given, checkOf, ntResponseGiven, authenticatorStringGiven, roleOf, directionOf, baseKeyGiven, bindingKeyGiven, strengthOf, noStrength, startKeyFrom, masterKeyFrom, credentialRows, startKeyGiven, choiceOctets, allowedOf, optionGiven, optionReply, choiceReply, recordLength, recordOctets, recordIn, noRecord, newLinkGiven, sealLinked, openLinked, openedBy};
+ghost use Rattle.mppe_record.specs.Record.{recordLength, recordOctets};
+ghost use Rattle.host.specs.Host.{given, checkOf, ntResponseGiven, authenticatorStringGiven, roleOf, directionOf, baseKeyGiven, bindingKeyGiven, startKeyFrom, masterKeyFrom, credentialRows, startKeyGiven, choiceOctets, allowedOf, optionGiven, optionReply, choiceReply, newLinkGiven, sealLinked, openLinked, openedBy};
 use ccp::Choice;
 use ccp::Strengths;
 use mppe::Link;
-use mppe::Outcome;
 use mppe_keys::Direction;
 use mppe_keys::Role;
 use mppe_keys::Strength;
+use mppe_record::bits_of;
+use mppe_record::no_strength;
+use mppe_record::read_record;
+use mppe_record::record_octets;
+use mppe_record::strength_of;
 use mschap::Checked;
-use octets::pair;
-
-// The octets of a link record; the first is its strength in bits.
-const RECORD_LENGTH: usize = 35;
-// Where its start key begins.
-const START_AT: usize = 1;
-// Where its session key begins.
-const SESSION_AT: usize = 17;
-// Where its last count begins.
-const COUNT_AT: usize = 33;
 
 // The number answered, and whether what was received is what it must be; a refusal is a no.
 #[repr(C)]
@@ -216,13 +209,14 @@ pub extern "C" fn udukemb_seal(link_record: &mut [u8], plain: &[u8], out: &mut [
         × (now (link_record .exit) ≡ sealLinked (now (link_record .entry)) (now (plain .entry)) (now (out .entry)) .octets)
         × (now (out .exit) ≡ sealLinked (now (link_record .entry)) (now (plain .entry)) (now (out .entry)) .buffer) ⌝ }
 {
-    if no_record(link_record) {
-        return answer::RECORD;
+    let read = read_record(link_record);
+    if read.answer != answer::DONE {
+        return read.answer;
     }
-    let link = record_in(link_record);
-    let made = link.seal(plain, out);
-    put_record(made, link_record);
-    made.answer
+    let link = read.link;
+    let sealed = link.seal(plain, out);
+    put_record(sealed.link, link_record);
+    sealed.answer
 }
 
 // Opens a sealed packet with the record in lent octets.
@@ -232,18 +226,19 @@ pub extern "C" fn udukemb_open(link_record: &mut [u8], packet: &[u8], out: &mut 
         × (now (link_record .exit) ≡ openLinked (now (link_record .entry)) (now (packet .entry)) (now (out .entry)) .octets)
         × (now (out .exit) ≡ openLinked (now (link_record .entry)) (now (packet .entry)) (now (out .entry)) .buffer) ⌝ }
 {
-    if no_record(link_record) {
+    let read = read_record(link_record);
+    if read.answer != answer::DONE {
         return Opened {
-            answer: answer::RECORD,
+            answer: read.answer,
             changes: 0,
         };
     }
-    let link = record_in(link_record);
-    let made = link.open(packet, out);
-    put_record(made, link_record);
+    let link = read.link;
+    let opened = link.open(packet, out);
+    put_record(opened.link, link_record);
     Opened {
-        answer: made.answer,
-        changes: made.changes,
+        answer: opened.answer,
+        changes: opened.changes,
     }
 }
 
@@ -287,37 +282,6 @@ fn direction_of(send: bool) -> Direction
         Direction::Send
     } else {
         Direction::Receive
-    }
-}
-
-// Whether a number of bits is no strength.
-fn no_strength(bits: u8) -> bool
-    ensures { λ r. ⌜ r ≡ noStrength bits ⌝ }
-{
-    bits != bits_of(strength_of(bits))
-}
-
-// The strength of a number of bits.
-fn strength_of(bits: u8) -> Strength
-    ensures { λ r. ⌜ r ≡ strengthOf bits ⌝ }
-{
-    if bits == 40 {
-        return Strength::Bits40;
-    }
-    if bits == 56 {
-        return Strength::Bits56;
-    }
-    Strength::Bits128
-}
-
-// The bits of a strength.
-fn bits_of(strength: Strength) -> u8
-    ensures { λ r. ⌜ r ≡ bitsOf strength ⌝ }
-{
-    match strength {
-        Strength::Bits40 => 40,
-        Strength::Bits56 => 56,
-        Strength::Bits128 => 128,
     }
 }
 
@@ -387,65 +351,11 @@ fn refused_reply(number: u8) -> Reply
     }
 }
 
-// Whether octets hold no link record.
-fn no_record(octets: &[u8]) -> bool
-    ensures { λ r. ⌜ r ≡ noRecord (now (octets .entry)) ⌝ }
-{
-    if octets.len() != RECORD_LENGTH {
-        return true;
-    }
-    no_strength(octets[0])
-}
-
-// The link record that octets hold.
-fn record_in(octets: &[u8]) -> Link
-    requires { ⌜ length (now octets) ≡ recordLength ⌝ }
-    ensures { λ r. ⌜ r ≡ recordIn (now (octets .entry)) ⌝ }
-{
-    Link {
-        strength: strength_of(octets[0]),
-        start: places(&octets[START_AT..SESSION_AT]),
-        session: places(&octets[SESSION_AT..COUNT_AT]),
-        count: pair(octets[COUNT_AT], octets[COUNT_AT + 1]),
-    }
-}
-
-// A key in its places.
-fn places(key: &[u8]) -> [u8; 16]
-    requires { ⌜ length (now key) ≡ 16 ⌝ }
-    ensures { λ r. ⌜ r ≡ now (key .entry) ⌝ }
-{
-    let mut places = [0u8; 16];
-    octets::copy(key, &mut places);
-    places
-}
-
-// Writes the record of a call that answered 0.
-fn put_record(made: Outcome, link_record: &mut [u8])
+// Writes a link record over the octets of another.
+fn put_record(link: Link, link_record: &mut [u8])
     requires { ⌜ length (now link_record) ≡ recordLength ⌝ }
-    ensures { λ _. ⌜ now (link_record .exit) ≡ onDone (made .answer) (recordOctets (made .link)) (now (link_record .entry)) ⌝ }
+    ensures { λ _. ⌜ now (link_record .exit) ≡ recordOctets link ⌝ }
 {
-    let link = made.link;
     let octets = record_octets(link);
-    give(made.answer, &octets, link_record);
-}
-
-// The octets of a link record.
-fn record_octets(link: Link) -> [u8; 35]
-    ensures { λ r. ⌜ r ≡ recordOctets link ⌝ }
-{
-    let strength = link.strength;
-    let start = link.start;
-    let session = link.session;
-    let count = link.count;
-    let mut octets = [0u8; 35];
-    octets::copy_at(&[bits_of(strength)], 0, &mut octets);
-    octets::copy_at(&start, START_AT, &mut octets);
-    octets::copy_at(&session, SESSION_AT, &mut octets);
-    octets::copy_at(
-        &[(count / 256) as u8, (count % 256) as u8],
-        COUNT_AT,
-        &mut octets,
-    );
-    octets
+    octets::copy(&octets, link_record);
 }

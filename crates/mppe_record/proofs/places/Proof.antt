@@ -1,8 +1,8 @@
 use borrow.Author.Needs.{needs}
 use native.Mathlib.Omega.{arith}
-use Rattle.host.proofs.Laws.{places-copied}
-use Rattle.host.proofs.places.Statement.{statement}
-use Rattle.host.proofs.places.Tie as tie
+use Rattle.mppe_record.proofs.Laws.{places-copied}
+use Rattle.mppe_record.proofs.places.Statement.{statement}
+use Rattle.mppe_record.proofs.places.Tie as tie
 
 slice-aggregate-copy : tie.Need-slice-aggregate-copy
 slice-aggregate-copy c = search needs

@@ -1,10 +1,7 @@
 use borrow.Author.Needs.{needs}
-use mathlib.Core.Path.{_≡_}
-use Prim.Native.Nat.{_<_}
-use lib.ListN.{length}
-use Rattle.host.proofs.Laws.{record-laid}
-use Rattle.host.proofs.record_octets.Statement.{statement}
-use Rattle.host.proofs.record_octets.Tie as tie
+use Rattle.mppe_record.proofs.Laws.{record-laid}
+use Rattle.mppe_record.proofs.record_octets.Statement.{statement}
+use Rattle.mppe_record.proofs.record_octets.Tie as tie
 
 bits-of-requires : tie.Need-bits-of-requires
 bits-of-requires c κs = search needs
@@ -52,16 +49,14 @@ copy-at-requires-4 : tie.Need-copy-at-requires-4
 copy-at-requires-4 c κs = search needs
 
 returns : tie.Need-returns
-returns c = let l = c .before .before .before .before .before .before .before .before .before .before .before .before
-    .before .before .before .before .before .before .before .args .link in
-    let start : length (l .start) ≡ 16 = search needs in
-    let session : length (l .session) ≡ 16 = search needs in
-    let count : l .count < 65536 = search needs in
-    let third = c .before .before .before .before .before in
-    let second = third .before .before .before .before in
-    let first = second .before .before .before .before in
-    record-laid l (first .before .before .before .bits-of .ensures) (first .copy-at .ensures) (second .copy-at2 .ensures)
-    (third .copy-at3 .ensures) (c .before .copy-at4 .ensures) start session count
+returns c =
+    record-laid _ (search needs, search needs, search needs)
+    (let count = c .before in
+    let session = count .before .before .before .before in
+    let start = session .before .before .before .before in
+    let bits = start .before .before .before .before in
+    let told = bits .before .before .before in
+    (told .bits-of .ensures, bits .copy-at .ensures, start .copy-at2 .ensures, session .copy-at3 .ensures, count .copy-at4 .ensures))
 
 pub record-octets-spec : {M : Type 1} → statement M
 record-octets-spec =

@@ -1,7 +1,7 @@
 use borrow.Author.Needs.{needs}
-use Rattle.host.proofs.Laws.{none-told}
-use Rattle.host.proofs.no_strength.Statement.{statement}
-use Rattle.host.proofs.no_strength.Tie as tie
+use Rattle.mppe_record.proofs.Laws.{none-told}
+use Rattle.mppe_record.proofs.no_strength.Statement.{statement}
+use Rattle.mppe_record.proofs.no_strength.Tie as tie
 
 strength-of-requires : tie.Need-strength-of-requires
 strength-of-requires c κs = search needs

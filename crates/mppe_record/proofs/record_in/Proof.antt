@@ -1,7 +1,7 @@
 use borrow.Author.Needs.{needs}
-use Rattle.host.proofs.Laws.{record-read}
-use Rattle.host.proofs.record_in.Statement.{statement}
-use Rattle.host.proofs.record_in.Tie as tie
+use Rattle.mppe_record.proofs.Laws.{record-read}
+use Rattle.mppe_record.proofs.record_in.Statement.{statement}
+use Rattle.mppe_record.proofs.record_in.Tie as tie
 
 shared-slice-read-strength-of : tie.Need-shared-slice-read-strength-of
 shared-slice-read-strength-of c = search needs

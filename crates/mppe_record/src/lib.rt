@@ -1,0 +1,128 @@
+// A link record as octets: strength in bits 1, start key 16, session key 16, last count 2 with its highest octet first.
+ghost use mathlib.Core.Path.{_≡_};
+ghost use lib.ListN.{length};
+ghost use Rattle.mppe_keys.specs.Keys.{bitsOf};
+ghost use Rattle.mppe_record.specs.Record.{strengthOf, noStrength, recordLength, recordOctets, recordIn, noRecord, recordRead};
+use mppe::Link;
+use mppe_keys::Strength;
+use octets::pair;
+
+// The octets of a link record; the first is its strength in bits.
+pub const RECORD_LENGTH: usize = 35;
+// Where its start key begins.
+const START_AT: usize = 1;
+// Where its session key begins.
+const SESSION_AT: usize = 17;
+// Where its last count begins.
+const COUNT_AT: usize = 33;
+
+// The number answered, and the record read; 40 bits and all else 0 where it is refused.
+pub struct RecordRead {
+    pub answer: u8,
+    pub link: Link,
+}
+
+// The octets of a link record.
+pub fn record_octets(link: Link) -> [u8; 35]
+    ensures { λ r. ⌜ r ≡ recordOctets link ⌝ }
+{
+    let strength = link.strength;
+    let start = link.start;
+    let session = link.session;
+    let count = link.count;
+    let mut octets = [0u8; 35];
+    octets::copy_at(&[bits_of(strength)], 0, &mut octets);
+    octets::copy_at(&start, START_AT, &mut octets);
+    octets::copy_at(&session, SESSION_AT, &mut octets);
+    octets::copy_at(
+        &[(count / 256) as u8, (count % 256) as u8],
+        COUNT_AT,
+        &mut octets,
+    );
+    octets
+}
+
+// Reads a link record; refused as `record` where the octets are not 35, or the first is no strength.
+pub fn read_record(octets: &[u8]) -> RecordRead
+    ensures { λ r. ⌜ r ≡ recordRead (now (octets .entry)) ⌝ }
+{
+    if octets.len() != RECORD_LENGTH {
+        return no_record();
+    }
+    if no_strength(octets[0]) {
+        return no_record();
+    }
+    RecordRead {
+        answer: answer::DONE,
+        link: record_in(octets),
+    }
+}
+
+// Whether a number of bits is no strength.
+pub fn no_strength(bits: u8) -> bool
+    ensures { λ r. ⌜ r ≡ noStrength bits ⌝ }
+{
+    bits != bits_of(strength_of(bits))
+}
+
+// The strength of a number of bits; 40 bits for one that is no strength.
+pub fn strength_of(bits: u8) -> Strength
+    ensures { λ r. ⌜ r ≡ strengthOf bits ⌝ }
+{
+    if bits == 128 {
+        return Strength::Bits128;
+    }
+    if bits == 56 {
+        return Strength::Bits56;
+    }
+    Strength::Bits40
+}
+
+// The bits of a strength.
+pub fn bits_of(strength: Strength) -> u8
+    ensures { λ r. ⌜ r ≡ bitsOf strength ⌝ }
+{
+    match strength {
+        Strength::Bits40 => 40,
+        Strength::Bits56 => 56,
+        Strength::Bits128 => 128,
+    }
+}
+
+// The link record in 35 octets.
+fn record_in(octets: &[u8]) -> Link
+    requires { ⌜ length (now octets) ≡ recordLength ⌝ }
+    ensures { λ r. ⌜ r ≡ recordIn (now (octets .entry)) ⌝ }
+{
+    Link {
+        strength: strength_of(octets[0]),
+        start: places(&octets[START_AT..SESSION_AT]),
+        session: places(&octets[SESSION_AT..COUNT_AT]),
+        count: pair(octets[COUNT_AT], octets[COUNT_AT + 1]),
+    }
+}
+
+// A key in its places.
+fn places(key: &[u8]) -> [u8; 16]
+    requires { ⌜ length (now key) ≡ 16 ⌝ }
+    ensures { λ r. ⌜ r ≡ now (key .entry) ⌝ }
+{
+    let mut places = [0u8; 16];
+    octets::copy(key, &mut places);
+    places
+}
+
+// What is read of octets that hold no record.
+fn no_record() -> RecordRead
+    ensures { λ r. ⌜ r ≡ noRecord ⌝ }
+{
+    RecordRead {
+        answer: answer::RECORD,
+        link: Link {
+            strength: Strength::Bits40,
+            start: [0u8; 16],
+            session: [0u8; 16],
+            count: 0,
+        },
+    }
+}
