@@ -1,0 +1,53 @@
+-- Demand 3 for a program in C, proved: from demand 3 over records, since a list of calls on octets is the list of calls on records.
+use mathlib.Core.Path.{_≡_, refl, sym, ap, _∙_}
+use mathlib.Core.List.{List, [], _∷_, map}
+use Prim.Native.Nat.{ℕ}
+use Rattle.answer.specs.Answer.{done}
+use Rattle.mppe_keys.specs.declared.Strength.{Strength}
+use Rattle.mppe.specs.declared.Link.{Link}
+use Rattle.mppe.specs.Link.{Result, longestPlain, newLink, sealResult, openResult}
+use Rattle.mppe.specs.Run.{SealCall, OpenCall, arrival, other, first, sealRun, openRun, Demand3}
+use Rattle.mppe.specs.Demand3.{demand-3-base}
+use Rattle.mppe_record.specs.Record.{strengthOf, recordOctets}
+use Rattle.mppe_record.specs.Laws.{Sized, new-sized, seal-sized, open-sized}
+use Rattle.host.specs.Host.{Given, Linked, linkedBy, sealLinked, openLinked}
+use Rattle.host.specs.Laws.{linked-on, new-whole}
+use Rattle.host.specs.Run.{Begun, sealsLinked, opensLinked, Demand3InC}
+
+-- a list of calls from the octets of a record on is the list of calls from that record on, every record as its octets
+pub seals-linked : (l : Link) (cs : List SealCall) → Sized l → sealsLinked (recordOctets l) cs ≡ map linkedBy (sealRun longestPlain l cs)
+unfolding sealsLinked sealRun sealLinked
+seals-linked l [] h = refl
+seals-linked l (c ∷ cs) h =
+    let r : Result = sealResult longestPlain l (c .plain) (c .room) in
+    rw (linked-on (λ l. sealResult longestPlain l (c .plain) (c .room)) l (c .room) h)
+    (ap (λ (rs : List Linked). linkedBy r ∷ rs) (seals-linked (r .outcome .link) cs (seal-sized longestPlain l (c .plain) (c .room) h)))
+
+pub opens-linked : (l : Link) (cs : List OpenCall) → Sized l → opensLinked (recordOctets l) cs ≡ map linkedBy (openRun longestPlain l cs)
+unfolding opensLinked openRun openLinked
+opens-linked l [] h = refl
+opens-linked l (arrival q packet room ∷ cs) h =
+    let r : Result = openResult longestPlain l packet room in
+    rw (linked-on (λ l. openResult longestPlain l packet room) l room h)
+    (ap (λ (rs : List Linked). linkedBy r ∷ rs) (opens-linked (r .outcome .link) cs (open-sized longestPlain l packet room h)))
+opens-linked l (other packet room ∷ cs) h =
+    let r : Result = openResult longestPlain l packet room in
+    rw (linked-on (λ l. openResult longestPlain l packet room) l room h)
+    (ap (λ (rs : List Linked). linkedBy r ∷ rs) (opens-linked (r .outcome .link) cs (open-sized longestPlain l packet room h)))
+
+-- what both ends begin with
+begun-is : (bits : ℕ) (start octets : List ℕ) → Begun bits start octets
+    → (newLink (strengthOf bits) start .answer ≡ done) × (octets ≡ recordOctets (first (strengthOf bits) start))
+begun-is bits start octets (lent, long, e) =
+    let (ok, whole) = new-whole bits start lent long (ap (λ (g : Given). g .number) e) in
+    (ok, sym (ap (λ (g : Given). g .buffer) e) ∙ whole)
+
+pub demand-3-in-c : Demand3InC
+unfolding Demand3InC Demand3
+demand-3-in-c bits start sender receiver sent received seals opens line =
+    let s : Strength = strengthOf bits in
+    let (ok, sender-is) = begun-is bits start sender sent in
+    let (_, receiver-is) = begun-is bits start receiver received in
+    let (said, due) = demand-3-base s start ok seals opens line in
+    rw (sender-is, receiver-is)
+    (seals-linked (first s start) seals (new-sized s start) ∙ ap (map linkedBy) said, opens-linked (first s start) opens (new-sized s start) ∙ ap (map linkedBy) due)

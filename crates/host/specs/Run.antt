@@ -1,0 +1,40 @@
+-- Demand 3 for a program in C, in the words of 01, "The run of demand 3": the two lists of calls, each end with a record in 35 lent
+-- octets. The history, its packets, what is asked of the line, and what is said and due are those of crates/mppe/specs/Run.antt.
+-- `Demand3InC` at the end is the claim.
+use mathlib.Core.Path.{_≡_}
+use mathlib.Core.List.{List, [], _∷_, map}
+use Prim.Native.Nat.{ℕ}
+use lib.ListN.{length}
+use Rattle.answer.specs.Answer.{done}
+use Rattle.mppe_keys.specs.declared.Strength.{Strength}
+use Rattle.mppe.specs.Link.{longestPlain}
+use Rattle.mppe.specs.Run.{mostLost, SealCall, OpenCall, arrival, other, Packet, first, beginning, packets, said, Meets, due}
+use Rattle.mppe_record.specs.Record.{strengthOf, recordLength}
+use Rattle.host.specs.Host.{Linked, newLinkGiven, linkedBy, sealLinked, openLinked}
+
+-- "Both ends begin with one and the same record, that of a new link that answered 0": what such a call leaves in 35 lent octets
+abbrev pub Begun : ℕ → List ℕ → List ℕ → Type 0
+Begun bits start octets =
+    (lent : List ℕ) × (length lent ≡ recordLength) × (newLinkGiven bits start lent ≡ record { number = done; buffer = octets })
+
+-- "Each call gets the record that the last call at its end handed back": the octets as that call left them
+unfoldable pub sealsLinked : List ℕ → List SealCall → List Linked
+sealsLinked octets [] = []
+sealsLinked octets (c ∷ cs) = let r : Linked = sealLinked octets (c .plain) (c .room) in r ∷ sealsLinked (r .octets) cs
+
+unfoldable pub opensLinked : List ℕ → List OpenCall → List Linked
+opensLinked octets [] = []
+opensLinked octets (arrival q packet room ∷ cs) = let r : Linked = openLinked octets packet room in r ∷ opensLinked (r .octets) cs
+opensLinked octets (other packet room ∷ cs) = let r : Linked = openLinked octets packet room in r ∷ opensLinked (r .octets) cs
+
+-- "This is a single claim about the two lists": each seal call answers, writes and leaves in its record's octets what the history says,
+-- and each open call answers, reports, writes and leaves there what is due; every record as its octets
+unfoldable pub Demand3InC : Type 0
+Demand3InC =
+    (bits : ℕ) (start sender receiver : List ℕ) → Begun bits start sender → Begun bits start receiver
+    → (seals : List SealCall) (opens : List OpenCall)
+    → let s : Strength = strengthOf bits in
+    let sealed : List Packet = packets longestPlain s start (beginning s start) seals in
+    Meets longestPlain s start sealed mostLost 0 (first s start) opens
+    → (sealsLinked sender seals ≡ map linkedBy (said longestPlain s start (beginning s start) (first s start) seals))
+    × (opensLinked receiver opens ≡ map linkedBy (due longestPlain s start sealed 0 (first s start) opens))
