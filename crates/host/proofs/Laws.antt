@@ -22,7 +22,7 @@ use Rattle.mppe_keys.specs.declared.Direction.{Direction}
 use Rattle.mppe_keys.specs.declared.Key.{Key}
 use Rattle.mppe_keys.specs.Keys.{bitsOf, keyLength, startKey, placed}
 use Rattle.mppe_keys.specs.Answers.{keyAnswer, oneCode, twoCode, masterKeyAnswer, startKeyAnswer}
-use Rattle.mppe_keys.specs.Laws.{masterKey-length, startKey-length}
+use Rattle.mppe_keys.specs.Laws.{key-most, masterKey-length, startKey-length}
 use Rattle.ccp.specs.declared.Strengths.{Strengths}
 use Rattle.ccp.specs.declared.Choice.{Choice}
 use Rattle.ccp.specs.declared.Reply.{Reply as CcpReply}
@@ -150,7 +150,11 @@ start-made s role direction password response e h ek =
     start-from (firstOf (credentialRows password response)) s role direction (masterKeyFrom password response) e h ek
     (masterKey-length (hashHash (passwordHash password)) response)
 
--- the front of a start key in its places, given over
+-- the front of a start key in its places has the key's octets ..
+pub key-fits : {n : ℕ} (s : Strength) (key : List ℕ) → length key ≡ 16 → n ≡ keyLength s → n ≤ length key
+key-fits s key h e = omega (arith, key-most s)
+
+-- .. and is given over
 key-given : (a b c : Bool) (n : ℕ) (key out : List ℕ) → length key ≡ n
     → given (keyAnswer (three a b c) key .answer) (take n (keyAnswer (three a b c) key .octets)) out ≡ given (three a b c) key out
 unfolding keyAnswer given placed

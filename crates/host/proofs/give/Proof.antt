@@ -16,8 +16,10 @@ same-length : tie.Need-same-length
 same-length c = search needs
 
 returns-3 : tie.Need-returns-3
-returns-3 c = let tested = c .before .before .before .before in
-    given-done _ _ _ (tested .before .if1 .left) (tested .if2 .left) (c .before .before .copy .ensures)
+returns-3 c =
+    let copied = c .before .before in
+    let tested = copied .before .before in
+    given-done _ _ _ (tested .before .if1 .left) (tested .if2 .left) (copied .copy .ensures)
 
 pub give-spec : {M : Type 1} → statement M
 give-spec = tie.close (tie.spec returns returns-2 copy-requires same-length returns-3)

@@ -7,8 +7,10 @@ password-hash-requires : tie.Need-password-hash-requires
 password-hash-requires c κs = search needs
 
 returns : tie.Need-returns
-returns c = let a = c .before .before .before .before .before .before .args in
-    master-refused (a .password .now) (a .response .now) _ (c .before .before .before .password-hash .ensures) (c .if1 .taken)
+returns c =
+    let hash = c .before .before .before in
+    let a = hash .before .before .before .args in
+    master-refused (a .password .now) (a .response .now) _ (hash .password-hash .ensures) (c .if1 .taken)
 
 slice-aggregate-hash-hash : tie.Need-slice-aggregate-hash-hash
 slice-aggregate-hash-hash c = search needs
@@ -23,10 +25,11 @@ master-key-requires : tie.Need-master-key-requires
 master-key-requires c κs = search needs
 
 returns-2 : tie.Need-returns-2
-returns-2 c = let hashed = c .before .before .before in
+returns-2 c =
+    let hashed = c .before .before .before in
     let tested = hashed .before .before in
-    master-made _ _ (tested .before .before .before .password-hash .ensures) (tested .if1 .left) (hashed .hash-hash .ensures)
-    (c .master-key .ensures)
+    let hash = tested .before .before .before in
+    master-made _ _ (hash .password-hash .ensures) (tested .if1 .left) (hashed .hash-hash .ensures) (c .master-key .ensures)
 
 pub master-key-from-spec : {M : Type 1} → statement M
 master-key-from-spec =

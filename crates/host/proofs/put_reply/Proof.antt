@@ -16,9 +16,12 @@ same-length : tie.Need-same-length
 same-length c = search needs
 
 returns : tie.Need-returns
-returns c = let wrote = c .before .before .before .before in
-    let w = choice-written _ _ (wrote .before .before .only .ensures) (wrote .write .ensures) in
-    (choice-refused _ _ (w .0) (c .before .if1 .taken) (c .refused-reply .ensures), w .1)
+returns c =
+    let tested = c .before in
+    let wrote = tested .before .before .before in
+    let picked = wrote .before .before in
+    let w = choice-written _ _ (picked .only .ensures) (wrote .write .ensures) in
+    (choice-refused _ _ (w .0) (tested .if1 .taken) (c .refused-reply .ensures), w .1)
 
 bits-of-requires : tie.Need-bits-of-requires
 bits-of-requires c κs = search needs
@@ -27,9 +30,12 @@ same-length-2 : tie.Need-same-length-2
 same-length-2 c = search needs
 
 returns-2 : tie.Need-returns-2
-returns-2 c = let wrote = c .before .before .before .before in
-    let w = choice-written _ _ (wrote .before .before .only .ensures) (wrote .write .ensures) in
-    (choice-replied _ _ (w .0) (c .before .if1 .left) (c .bits-of .ensures), w .1)
+returns-2 c =
+    let tested = c .before in
+    let wrote = tested .before .before .before in
+    let picked = wrote .before .before in
+    let w = choice-written _ _ (picked .only .ensures) (wrote .write .ensures) in
+    (choice-replied _ _ (w .0) (tested .if1 .left) (c .bits-of .ensures), w .1)
 
 pub put-reply-spec : {M : Type 1} → statement M
 put-reply-spec =

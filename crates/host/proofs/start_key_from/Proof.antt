@@ -16,10 +16,11 @@ start-key-requires : tie.Need-start-key-requires
 start-key-requires c κs = search needs
 
 returns-2 : tie.Need-returns-2
-returns-2 c = let tested = c .before .before .before in
-    let a = tested .before .before .before .before .before .args in
-    start-made _ _ _ (a .password .now) (a .response .now) (tested .before .before .master-key-from .ensures) (tested .if1 .left)
-    (c .start-key .ensures)
+returns-2 c =
+    let tested = c .before .before .before in
+    let master = tested .before .before in
+    let a = master .before .before .before .args in
+    start-made _ _ _ (a .password .now) (a .response .now) (master .master-key-from .ensures) (tested .if1 .left) (c .start-key .ensures)
 
 pub start-key-from-spec : {M : Type 1} → statement M
 start-key-from-spec =

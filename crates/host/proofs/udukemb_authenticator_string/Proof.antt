@@ -18,8 +18,11 @@ same-length c = search needs
 
 returns : tie.Need-returns
 unfolding authenticatorStringGiven
-returns c = let given = c .before .before in
-    handed (λ a. a .answer) (λ a. a .octets) _ (given .before .before .before .before .authenticator-string .ensures) (given .give .ensures)
+returns c =
+    let gave = c .before .before in
+    let lent = gave .before .before in
+    let made = lent .before .before in
+    handed (λ a. a .answer) (λ a. a .octets) _ (made .authenticator-string .ensures) (gave .give .ensures)
 
 pub udukemb-authenticator-string-spec : {M : Type 1} → statement M
 udukemb-authenticator-string-spec =

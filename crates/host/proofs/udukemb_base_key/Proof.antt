@@ -23,11 +23,15 @@ same-length c = search needs
 
 returns : tie.Need-returns
 unfolding baseKeyGiven
-returns c = let given = c .before .before in
-    let made = given .before .before .before .before in
-    let a = made .before .before .before .before .before .args in
-    let said = made .base-key .ensures ∙ ap (λ r. baseKeyAnswer r (a .send .now) (a .receive .now)) (made .before .role-of .ensures) in
-    handed (λ a. a .answer) (λ a. a .octets) _ said (given .give .ensures)
+returns c =
+    let gave = c .before .before in
+    let lent = gave .before .before in
+    let made = lent .before .before in
+    let role = made .before in
+    let known = role .before .before in
+    let a = known .before .before .args in
+    let said = made .base-key .ensures ∙ ap (λ r. baseKeyAnswer r (a .send .now) (a .receive .now)) (role .role-of .ensures) in
+    handed (λ a. a .answer) (λ a. a .octets) _ said (gave .give .ensures)
 
 pub udukemb-base-key-spec : {M : Type 1} → statement M
 udukemb-base-key-spec =

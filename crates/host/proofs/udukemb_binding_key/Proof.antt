@@ -18,8 +18,11 @@ same-length c = search needs
 
 returns : tie.Need-returns
 unfolding bindingKeyGiven
-returns c = let given = c .before .before in
-    handed (λ a. a .answer) (λ a. a .octets) _ (given .before .before .before .before .binding-key .ensures) (given .give .ensures)
+returns c =
+    let gave = c .before .before in
+    let lent = gave .before .before in
+    let made = lent .before .before in
+    handed (λ a. a .answer) (λ a. a .octets) _ (made .binding-key .ensures) (gave .give .ensures)
 
 pub udukemb-binding-key-spec : {M : Type 1} → statement M
 udukemb-binding-key-spec =

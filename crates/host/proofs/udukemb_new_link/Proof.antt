@@ -31,11 +31,15 @@ same-length : tie.Need-same-length
 same-length c = search needs
 
 returns-2 : tie.Need-returns-2
-returns-2 c = let given = c .before .before in
-    let made = given .before .before .before .before .before in
-    let tested = made .before .before in
-    new-given _ _ _ (sym (tested .before .no-strength .ensures) ∙ tested .if1 .left) (made .before .strength-of .ensures)
-    (made .new .ensures) (given .before .before .before .record-octets .ensures) (given .give .ensures)
+returns-2 c =
+    let gave = c .before .before in
+    let laid = gave .before .before .before in
+    let made = laid .before .before in
+    let picked = made .before in
+    let tested = picked .before in
+    let asked = tested .before in
+    new-given _ _ _ (sym (asked .no-strength .ensures) ∙ tested .if1 .left) (picked .strength-of .ensures) (made .new .ensures)
+    (laid .record-octets .ensures) (gave .give .ensures)
 
 pub udukemb-new-link-spec : {M : Type 1} → statement M
 udukemb-new-link-spec =

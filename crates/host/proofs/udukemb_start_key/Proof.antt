@@ -1,13 +1,9 @@
 use borrow.Author.Needs.{needs}
 use mathlib.Core.Path.{_≡_, sym, _∙_}
-use Prim.Native.Nat.{_≤_}
 use lib.ListN.{length}
-use Rattle.mppe_keys.specs.Keys.{keyLength}
-use native.Mathlib.Omega.{arith}
-use Rattle.mppe_keys.specs.Laws.{key-most}
 use Rattle.mppe_keys.proofs.Laws.{count}
 use Rattle.host.specs.Host.{startKeyGiven}
-use Rattle.host.proofs.Laws.{none-first, none-given, start-given}
+use Rattle.host.proofs.Laws.{none-first, none-given, key-fits, start-given}
 use Rattle.host.proofs.udukemb_start_key.Statement.{statement}
 use Rattle.host.proofs.udukemb_start_key.Tie as tie
 
@@ -34,21 +30,22 @@ key-length-requires : tie.Need-key-length-requires
 key-length-requires c κs = search needs
 
 array-share-prefix-octets : tie.Need-array-share-prefix-octets
-array-share-prefix-octets c = let len = c .before .key-length in
+array-share-prefix-octets c =
     let key = c .before .before .start-key-from .result .octets in
-    let s = c .before .before .before .before .before .strength-of .result in
-    let all : length key ≡ 16 = search needs in
-    let n : len .result ≡ keyLength s = len .ensures in
-    let fits : len .result ≤ length key = omega (arith, key-most s) in
-    fits
+    let places : length key ≡ 16 = search needs in
+    let len = c .before in
+    let made = len .before in
+    let picked = made .before .before .before in
+    key-fits (picked .strength-of .result) key places (len .key-length .ensures)
 
 slice-aggregate-give : tie.Need-slice-aggregate-give
-slice-aggregate-give c = let len = c .before .before .key-length in
+slice-aggregate-give c =
     let key = c .before .before .before .start-key-from .result .octets in
-    let s = c .before .before .before .before .before .before .strength-of .result in
-    let all : length key ≡ 16 = search needs in
-    let n : len .result ≡ keyLength s = len .ensures in
-    count (len .result) key (omega (arith, key-most s))
+    let places : length key ≡ 16 = search needs in
+    let len = c .before .before in
+    let made = len .before in
+    let picked = made .before .before .before in
+    count _ key (key-fits (picked .strength-of .result) key places (len .key-length .ensures))
 
 give-requires : tie.Need-give-requires
 give-requires c κs = search needs
@@ -57,13 +54,21 @@ same-length : tie.Need-same-length
 same-length c = search needs
 
 returns-2 : tie.Need-returns-2
-returns-2 c = let given = c .before .before in
-    let made = given .before .before .before .before .before in
-    let tested = made .before .before .before .before in
-    let a = tested .before .before .before .before .before .args in
-    start-given _ _ _ (a .password .now) (a .response .now) _ (sym (tested .before .no-strength .ensures) ∙ tested .if1 .left)
-    (made .before .before .before .strength-of .ensures) (made .before .before .role-of .ensures) (made .before .direction-of .ensures)
-    (made .start-key-from .ensures) (given .before .before .before .before .key-length .ensures) (given .give .ensures)
+returns-2 c =
+    let gave = c .before .before in
+    let lent = gave .before .before in
+    let len = lent .before .before in
+    let made = len .before in
+    let way = made .before in
+    let role = way .before in
+    let picked = role .before in
+    let tested = picked .before in
+    let asked = tested .before in
+    let known = asked .before .before in
+    let a = known .before .before .args in
+    start-given _ _ _ (a .password .now) (a .response .now) _ (sym (asked .no-strength .ensures) ∙ tested .if1 .left)
+    (picked .strength-of .ensures) (role .role-of .ensures) (way .direction-of .ensures) (made .start-key-from .ensures)
+    (len .key-length .ensures) (gave .give .ensures)
 
 pub udukemb-start-key-spec : {M : Type 1} → statement M
 udukemb-start-key-spec =

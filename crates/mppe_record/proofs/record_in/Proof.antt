@@ -46,9 +46,11 @@ pair-requires : tie.Need-pair-requires
 pair-requires c κs = search needs
 
 returns : tie.Need-returns
-returns c = let session = c .before .before .before in
+returns c =
+    let session = c .before .before .before in
     let start = session .before .before in
-    record-read _ (start .before .before .strength-of .ensures) (start .places .ensures) (session .places2 .ensures) (c .pair .ensures)
+    let bits = start .before .before in
+    record-read _ (bits .strength-of .ensures) (start .places .ensures) (session .places2 .ensures) (c .pair .ensures)
 
 pub record-in-spec : {M : Type 1} → statement M
 record-in-spec =

@@ -51,12 +51,15 @@ copy-at-requires-4 c κs = search needs
 returns : tie.Need-returns
 returns c =
     record-laid _ (search needs, search needs, search needs)
-    (let count = c .before in
-    let session = count .before .before .before .before in
-    let start = session .before .before .before .before in
-    let bits = start .before .before .before .before in
-    let told = bits .before .before .before in
-    (told .bits-of .ensures, bits .copy-at .ensures, start .copy-at2 .ensures, session .copy-at3 .ensures, count .copy-at4 .ensures))
+    (let fourth = c .before in
+    let count = fourth .before .before in
+    let third = count .before .before in
+    let session = third .before .before in
+    let second = session .before .before in
+    let start = second .before .before in
+    let first = start .before .before in
+    let bits = first .before .before .before in
+    (bits .bits-of .ensures, first .copy-at .ensures, second .copy-at2 .ensures, third .copy-at3 .ensures, fourth .copy-at4 .ensures))
 
 pub record-octets-spec : {M : Type 1} → statement M
 record-octets-spec =
