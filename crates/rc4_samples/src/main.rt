@@ -1,6 +1,9 @@
 // Runs RC4 on the vectors of RFC 6229 and at the limits of 01, and prints what it answers.
+ghost use mathlib.Core.Path.{_≡_};
 ghost use Prim.Native.Nat.{_≤_};
 ghost use lib.ListN.{length};
+ghost use Rattle.rc4.specs.Answers.{drawAnswer};
+use rc4::Drawn;
 use rc4::Rc4;
 
 // How far the vectors reach into the keystream.
@@ -80,14 +83,13 @@ const HASHED: [u8; 32] = [
 
 // All cases, in the order of tests/rc4.c.
 fn main() {
-    vector(b"key 1 of 40 bits", &COUNTED[..5]);
-    vector(b"key 1 of 56 bits", &COUNTED[..7]);
-    vector(b"key 1 of 128 bits", &COUNTED[..16]);
-    vector(b"key 1 of 256 bits", &COUNTED);
-    vector(b"key 2 of 40 bits", &HASHED[27..]);
-    vector(b"key 2 of 56 bits", &HASHED[25..]);
-    vector(b"key 2 of 128 bits", &HASHED[16..]);
-    vector(b"key 2 of 256 bits", &HASHED);
+    vectors(5);
+    vectors(7);
+    vectors(8);
+    vectors(10);
+    vectors(16);
+    vectors(24);
+    vectors(32);
     keys();
     draws();
     buffers();
@@ -96,45 +98,38 @@ fn main() {
     twice(&mut [0u8; 32], &mut [0u8; 32]);
 }
 
-// The keystream of a key at the offsets of RFC 6229, section 2.
-fn vector(label: &[u8], key: &[u8]) {
-    let k = Rc4::keyed(key);
-    report::line(label, k.answer, key);
-    let zeros = [0u8; REACH];
-    let mut out = [0u8; REACH];
-    let s = k.state;
-    let r = s.run(&zeros, &mut out);
-    sixteen(b"offset 0", r.answer, &out, 0);
-    sixteen(b"offset 16", r.answer, &out, 16);
-    sixteen(b"offset 240", r.answer, &out, 240);
-    sixteen(b"offset 256", r.answer, &out, 256);
-    sixteen(b"offset 496", r.answer, &out, 496);
-    sixteen(b"offset 512", r.answer, &out, 512);
-    sixteen(b"offset 752", r.answer, &out, 752);
-    sixteen(b"offset 768", r.answer, &out, 768);
-    sixteen(b"offset 1008", r.answer, &out, 1008);
-    sixteen(b"offset 1024", r.answer, &out, 1024);
-    sixteen(b"offset 1520", r.answer, &out, 1520);
-    sixteen(b"offset 1536", r.answer, &out, 1536);
-    sixteen(b"offset 2032", r.answer, &out, 2032);
-    sixteen(b"offset 2048", r.answer, &out, 2048);
-    sixteen(b"offset 3056", r.answer, &out, 3056);
-    sixteen(b"offset 3072", r.answer, &out, 3072);
-    sixteen(b"offset 4080", r.answer, &out, 4080);
-    sixteen(b"offset 4096", r.answer, &out, 4096);
+// Both keys of n octets of RFC 6229, section 2.
+fn vectors(n: usize)
+    requires { ⌜ n ≤ 32 ⌝ }
+{
+    vector(b"key 1, bits", n * 8, &COUNTED[0..n]);
+    vector(b"key 2, bits", n * 8, &HASHED[32 - n..32]);
 }
 
-// Prints sixteen octets from an offset on.
-fn sixteen(label: &[u8], answer: u8, out: &[u8; REACH], offset: usize)
-    requires { ⌜ offset ≤ 4096 ⌝ }
+// The keystream of a key at every offset that is printed.
+fn vector(label: &[u8], bits: usize, key: &[u8]) {
+    let k = Rc4::keyed(key);
+    report::numbered(label, bits, k.answer, key);
+    let mut out = [0u8; REACH];
+    let s = k.state;
+    let r = s.run(&[0u8; REACH], &mut out);
+    around(r.answer, &out, 16);
+    around(r.answer, &out, 256);
+    around(r.answer, &out, 512);
+    around(r.answer, &out, 768);
+    around(r.answer, &out, 1024);
+    around(r.answer, &out, 1536);
+    around(r.answer, &out, 2048);
+    around(r.answer, &out, 3072);
+    around(r.answer, &out, 4096);
+}
+
+// Prints sixteen octets before an offset and sixteen behind it.
+fn around(answer: u8, out: &[u8], offset: usize)
+    requires { ⌜ (16 ≤ offset) × (offset ≤ 4096) × (length (now out) ≡ 4112) ⌝ }
 {
-    let mut part = [0u8; 16];
-    let mut n = 0;
-    while n < 16 {
-        part[n] = out[offset + n];
-        n += 1;
-    }
-    report::line(label, answer, &part);
+    report::numbered(b"offset", offset - 16, answer, &out[offset - 16..offset]);
+    report::numbered(b"offset", offset, answer, &out[offset..offset + 16]);
 }
 
 // Keys at and beyond the limits of their length; a refusal's box is all zeros.
@@ -167,42 +162,65 @@ fn box_of(label: &[u8], key: &[u8]) {
     report::line(label, k.answer, &cells);
 }
 
+// How a draw is made.
+enum Form {
+    ByValue,
+    ByReference,
+}
+
 // Draws from a key's box, and from a box made by hand that is no permutation.
 fn draws() {
     let k = Rc4::keyed(&COUNTED[..5]);
     let s = k.state;
-    show_draws(b"draws from a key", s);
+    show_draws(b"draws from a key", Form::ByValue, s);
+    show_draws(b"draws from a key, in place", Form::ByReference, s);
     let mut cells = s.cells;
     cells[0] = 9;
     cells[200] = 9;
-    show_draws(
-        b"draws from a box made by hand",
-        Rc4 {
-            cells,
-            i: 255,
-            j: 200,
-        },
-    );
+    let made = Rc4 {
+        cells,
+        i: 255,
+        j: 200,
+    };
+    show_draws(b"draws from a box made by hand", Form::ByValue, made);
+    show_draws(b"draws from it, in place", Form::ByReference, made);
 }
 
 // Prints the next sixteen draws from a state.
-fn show_draws(label: &[u8], state: Rc4) {
-    report::line(label, 0, &sixteen_draws(state));
+fn show_draws(label: &[u8], form: Form, state: Rc4) {
+    report::line(label, 0, &sixteen_draws(form, state));
 }
 
 // Sixteen draws, one at a time.
-fn sixteen_draws(state: Rc4) -> [u8; 16] {
+fn sixteen_draws(form: Form, state: Rc4) -> [u8; 16] {
     let mut s = state;
     let mut octets = [0u8; 16];
     let mut n = 0;
     while n < 16 {
-        let d = s.draw();
+        let d = one_draw(form, s);
         octets[n] = d.octet;
         let next = d.state;
         s = next;
         n += 1;
     }
     octets
+}
+
+// One draw.
+fn one_draw(form: Form, state: Rc4) -> Drawn {
+    match form {
+        Form::ByValue => state.draw(),
+        Form::ByReference => drawn_in_place(state),
+    }
+}
+
+// One draw from a generator lent by reference, with the state that it is left in.
+fn drawn_in_place(state: Rc4) -> Drawn
+    ensures { λ r. ⌜ r ≡ drawAnswer state ⌝ }
+{
+    let mut g = state;
+    let octet = rc4::draw_next(&mut g);
+    Drawn { octet, state: g }
 }
 
 // Lent buffers longer than the text, as long, and one octet too short; an empty text.
@@ -226,7 +244,7 @@ fn buffers() {
 fn buffer(label: &[u8], text: &[u8], out: &mut [u8]) {
     let k = Rc4::keyed(&COUNTED[..16]);
     let s = k.state;
-    show_draws(b"draws after it", shown(label, s, text, out));
+    show_draws(b"draws after it", Form::ByValue, shown(label, s, text, out));
 }
 
 // Runs a text, prints the whole buffer, and hands back the state.
@@ -254,7 +272,7 @@ fn lengths() {
         &text,
         &mut [0xEEu8; 16],
     );
-    show_draws(b"draws after it", v);
+    show_draws(b"draws after it", Form::ByValue, v);
 }
 
 // Runs a text, prints the last sixteen octets of the buffer, and hands back the state.

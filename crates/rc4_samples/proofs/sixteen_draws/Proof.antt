@@ -7,16 +7,16 @@ use Rattle.rc4_samples.proofs.sixteen_draws.Statement.{statement}
 use Rattle.rc4_samples.proofs.sixteen_draws.Tie as tie
 
 abbrev Inv-loop : tie.InvT-loop
-Inv-loop s₀ octets₀ n₀ s octets n = (n ≤ 16) × (length octets ≡ 16)
+Inv-loop form₀ s₀ octets₀ n₀ s octets n = (n ≤ 16) × (length octets ≡ 16)
 
 abbrev μ-loop : tie.MeasureT-loop
-μ-loop s₀ octets₀ n₀ s octets n = 16 - n
+μ-loop form₀ s₀ octets₀ n₀ s octets n = 16 - n
 
 loop-holds : tie.Need-loop-holds Inv-loop μ-loop
 loop-holds c = search needs
 
-draw-requires : tie.Need-draw-requires Inv-loop μ-loop
-draw-requires c κs = search needs
+one-draw-requires : tie.Need-one-draw-requires Inv-loop μ-loop
+one-draw-requires c κs = search needs
 
 array-write-octets : tie.Need-array-write-octets Inv-loop μ-loop
 array-write-octets c = search needs
@@ -40,7 +40,7 @@ sixteen-draws-spec =
     Inv-loop
     μ-loop
     loop-holds
-    draw-requires
+    one-draw-requires
     array-write-octets
     add-n
     loop-less
