@@ -1,97 +1,57 @@
-/* What crates/ccp_samples must print, worked out apart from the library in plain C, by sets and not by words:
-   an option is taken apart bit by bit into numbers of bits, and a reply is looked for from the strongest downwards.
-   Build: cc -O2 -o ccp tests/ccp.c; the output is crates/ccp_samples/stdout. */
-#include <stdio.h>
-#include <string.h>
+/* What crates/ccp_samples must print, by the oracle. */
+#include "line.h"
 
-typedef unsigned char octet;
-
-/* The strengths from the strongest downwards, with their bit in an option's last octet, and their digit in a set. */
-static const struct { int bits, in_option, in_set; } strengths[3] = { { 128, 0x40, 4 }, { 56, 0x80, 2 }, { 40, 0x20, 1 } };
-
-static void show(const char *kind, int n, int answer, const octet *p, size_t count)
+/* A set of strengths: 1 for 40 bits, 2 for 56, 4 for 128. */
+static offer offer_of(bool stateless, int set)
 {
-    printf("%s %d %d ", kind, n, answer);
-    for (size_t k = 0; k < count; k++)
-        printf("%02x", p[k]);
-    printf("\n");
+    offer o = {stateless, set & 1, set >> 1 & 1, set >> 2 & 1};
+
+    return o;
 }
 
-static int well_shaped(const octet *option, size_t n)
+/* An option read. */
+static void show_read(part option)
 {
-    static const octet front[2] = { 0x12, 0x06 };
+    offer o;
+    int answer = oracle_read_option(option, &o);
 
-    return n == 6 && memcmp(option, front, 2) == 0;
+    numbered(o.stateless ? "stateless" : "stateful", o.bits40 + 2 * o.bits56 + 4 * o.bits128, answer, option.at, option.n);
 }
 
-static int offered(const octet *option)
-{
-    int set = 0;
-
-    for (int k = 0; k < 3; k++)
-        if (option[5] & strengths[k].in_option)
-            set += strengths[k].in_set;
-    return set;
-}
-
-static void make(octet *option, int stateless, int set)
-{
-    memcpy(option, "\x12\x06\0\0\0", 6);
-    option[2] = stateless;
-    for (int k = 0; k < 3; k++)
-        if (set & strengths[k].in_set)
-            option[5] += strengths[k].in_option;
-}
-
-static void show_read(const octet *option, size_t n)
-{
-    if (!well_shaped(option, n))
-        show("stateful", 0, 1, option, n);
-    else
-        show(option[2] % 2 ? "stateless" : "stateful", offered(option), 0, option, n);
-}
-
-static void show_write(int stateless, int set, size_t room)
+/* An option written into a buffer. */
+static void show_write(bool stateless, int set, size_t room)
 {
     octet out[8];
+    int answer;
 
-    memset(out, 0xaa, sizeof out);
-    if (room >= 6)
-        make(out, stateless, set);
-    show("written", set, room < 6 ? 2 : 0, out, room);
+    memset(out, 0xAA, sizeof out);
+    answer = oracle_write_option(offer_of(stateless, set), into(out, room));
+    numbered("written", (size_t)set, answer, out, room);
 }
 
-static void show_reply(const octet *option, size_t n, int policy)
+/* A request replied to under a policy: the request, and behind it the reply's option. */
+static void show_reply(part option, int policy)
 {
-    octet shown[14] = { 0 };
-    int k = 0;
+    octet shown[14] = {0};
+    reply r = oracle_option_reply(option, offer_of(false, policy), into(shown + 8, OPTION));
 
-    memcpy(shown, option, n);
-    if (!well_shaped(option, n)) {
-        show("refused", policy, 1, shown, 14);
-        return;
-    }
-    while (k < 3 && !(offered(option) & policy & strengths[k].in_set))
-        k++;
-    if (k == 3) {
-        show("refused", policy, 8, shown, 14);
-        return;
-    }
-    make(shown + 8, 1, strengths[k].in_set);
-    show(memcmp(shown, shown + 8, 6) == 0 ? "accept" : "counter-offer", policy, 0, shown, 14);
+    if (option.n > 0)
+        memcpy(shown, option.at, option.n);
+    numbered(r.number != DONE ? "refused" : r.accept ? "accept" : "counter-offer", (size_t)policy, r.number, shown, sizeof shown);
 }
 
-static void refused(const char *octets, size_t n)
+/* A request of a wrong shape. */
+static void refused(part option)
 {
-    show_read((const octet *)octets, n);
-    show_reply((const octet *)octets, n, 7);
-    show_reply((const octet *)octets, n, 0);
+    show_read(option);
+    show_reply(option, 7);
+    show_reply(option, 0);
 }
 
-/* Each subset of M, S and L without H, then with it; then the same with C, with D, and with the top bit of each other octet. */
-static void request(octet *option, int i)
+/* Request i: each subset of M, S and L without H, then with it; the same with C, with D, and with the top bit of each other octet. */
+static part request(int i, octet option[OPTION])
 {
-    octet made[6] = { 18, 6, (i & 8) != 0, 0, 0, (i & 7) << 5 };
+    octet made[OPTION] = {18, 6, (i & 8) != 0, 0, 0, (octet)((i & 7) << 5)};
 
     switch (i >> 4) {
     case 1:
@@ -104,43 +64,40 @@ static void request(octet *option, int i)
         for (int k = 2; k < 5; k++)
             made[k] ^= 128;
     }
-    memcpy(option, made, 6);
+    memcpy(option, made, OPTION);
+    return of(option, OPTION);
 }
 
 int main(void)
 {
-    octet option[6];
+    octet option[OPTION];
 
     printf("K9 ");
-    show_read((const octet *)"\x12\x06\x01\x00\x00\x40", 6);
+    show_read(LITERAL("\x12\x06\x01\x00\x00\x40"));
     printf("K10 ");
-    show_reply((const octet *)"\x12\x06\x01\x00\x00\xe0", 6, 7);
+    show_reply(LITERAL("\x12\x06\x01\x00\x00\xE0"), 7);
     printf("K11 ");
-    show_reply((const octet *)"\x12\x06\x00\x00\x00\x20", 6, 7);
+    show_reply(LITERAL("\x12\x06\x00\x00\x00\x20"), 7);
     printf("K12 ");
-    show_reply((const octet *)"\x12\x06\x01\x00\x00\x20", 6, 4);
-    for (int i = 0; i < 64; i++) {
-        request(option, i);
-        show_read(option, 6);
-    }
+    show_reply(LITERAL("\x12\x06\x01\x00\x00\x20"), 4);
+    for (int i = 0; i < 64; i++)
+        show_read(request(i, option));
     for (int stateless = 0; stateless < 2; stateless++)
         for (int set = 0; set < 8; set++)
             show_write(stateless, set, 8);
-    show_write(1, 7, 0);
-    show_write(1, 7, 5);
-    show_write(1, 7, 6);
-    show_write(0, 1, 8);
+    show_write(true, 7, 0);
+    show_write(true, 7, 5);
+    show_write(true, 7, 6);
+    show_write(false, 1, 8);
     for (int policy = 0; policy < 8; policy++)
-        for (int i = 0; i < 64; i++) {
-            request(option, i);
-            show_reply(option, 6, policy);
-        }
-    refused("", 0);
-    refused("\x12\x06\x01\x00\x00", 5);
-    refused("\x12\x06\x01\x00\x00\x40\x00", 7);
-    refused("\x12\x07\x01\x00\x00\x40\x00", 7);
-    refused("\x11\x06\x01\x00\x00\x40", 6);
-    refused("\x12\x05\x01\x00\x00\x40", 6);
-    refused("\x12\x07\x01\x00\x00\x40", 6);
+        for (int i = 0; i < 64; i++)
+            show_reply(request(i, option), policy);
+    refused(LITERAL(""));
+    refused(LITERAL("\x12\x06\x01\x00\x00"));
+    refused(LITERAL("\x12\x06\x01\x00\x00\x40\x00"));
+    refused(LITERAL("\x12\x07\x01\x00\x00\x40\x00"));
+    refused(LITERAL("\x11\x06\x01\x00\x00\x40"));
+    refused(LITERAL("\x12\x05\x01\x00\x00\x40"));
+    refused(LITERAL("\x12\x07\x01\x00\x00\x40"));
     return 0;
 }

@@ -1,6 +1,6 @@
 /* What crates/des_samples must print, by the oracle (OpenSSL's DES), which is held against the published values.
    Keys stand here as the documents print them, parity bits and all. */
-#include "line.h"
+#include "sample.h"
 
 /* NIST's known answers (Special Publication 500-20): each bit of the block alone, under a key without a bit but for parity. */
 static const char *const one_bit_blocks[] = {
@@ -56,21 +56,6 @@ static const char *const substitution[][3] = {
     {"49E95D6D4CA229BF", "02FE55778117F12A", "5A6B612CC26CCE4A"}, {"018310DC409B26D6", "1D9D5C5018F728C2", "5F4C038ED12B2E41"},
     {"1C587F1C13924FEF", "305532286D6F295A", "63FAC0D034D9F793"}};
 
-/* RFC 2759, 9.2: the password hash, the challenge hash, and the NT-Response in its three parts; 9.3: its keys with their parity bits. */
-static const char password_hash[] = "44 EB BA 8D 53 12 B8 D6 11 47 44 11 F5 69 89 AE", challenge[] = "D0 2E 43 86 BC E9 12 26";
-static const char *const nt_response[] = {"82 30 9E CD 8D 70 8B 5E", "A0 8F AA 39 81 CD 83 54", "42 33 11 4A 3D 85 D6 DF"};
-static const char *const parity_corrected[] = {"FD 0B 5B 5E 7F 6E 34 D9", "0E 6E 79 67 37 EA 08 FE"};
-
-/* A call's line. */
-static void des(const char *label, part key, part block, const char *printed)
-{
-    octet out[DES_BLOCK];
-
-    line(label, oracle_des(key, block, out), out, DES_BLOCK);
-    if (printed)
-        published(label, out, printed);
-}
-
 /* The seven octets of a printed key of eight: the last bit of each is parity. */
 static part without_parity(const char *digits, octet to[DES_KEY])
 {
@@ -90,31 +75,64 @@ static part one_bit(int bit, octet *to, size_t n)
     return of(to, n);
 }
 
-int main(void)
+/* A call's line, and the block that it gave. */
+static void des(const char *label, part key, part block, octet out[DES_BLOCK])
+{
+    line(label, oracle_des(key, block, out), out, DES_BLOCK);
+}
+
+/* The same held against what is printed. */
+static void known(const char *label, part key, part block, const char *digits)
+{
+    octet out[DES_BLOCK];
+
+    des(label, key, block, out);
+    published(label, out, digits);
+}
+
+/* The NT-Response of RFC 2759, 9.2, a block under each of three keys; and the keys of 9.3. */
+static void responses(void)
+{
+    octet key[DES_KEY], block[DES_BLOCK], out[DES_BLOCK], hash[3 * DES_KEY] = {0}, response[NT_RESPONSE];
+    part challenge = printed(SAMPLE_CHALLENGE, block);
+
+    unhex(PASSWORD_HASH, hash);
+    for (int i = 0; i < 3; i++)
+        des("nt-response", of(hash + DES_KEY * i, DES_KEY), challenge, response + DES_BLOCK * i);
+    published("NT-Response", response, SAMPLE_RESPONSE);
+    for (int i = 0; i < 2; i++)
+        des("raw-key", without_parity(PARITY_CORRECTED[i], key), challenge, out);
+}
+
+/* Keys and blocks of other lengths. */
+static void refusals(void)
 {
     static const octet zeros[9];
-    octet key[DES_KEY], block[DES_BLOCK], hash[3 * DES_KEY] = {0};
+    octet out[DES_BLOCK];
+
+    des("key-of-0", of(zeros, 0), of(zeros, 8), out);
+    des("key-of-6", of(zeros, 6), of(zeros, 8), out);
+    des("key-of-8", of(zeros, 8), of(zeros, 8), out);
+    des("block-of-0", of(zeros, 7), of(zeros, 0), out);
+    des("block-of-7", of(zeros, 7), of(zeros, 7), out);
+    des("block-of-9", of(zeros, 7), of(zeros, 9), out);
+    des("both", of(zeros, 8), of(zeros, 7), out);
+}
+
+int main(void)
+{
+    static const octet zeros[DES_BLOCK];
+    octet key[DES_KEY], block[DES_BLOCK];
 
     for (int i = 0; i < 64; i++)
-        des("one-bit-block", of(zeros, DES_KEY), one_bit(i, block, DES_BLOCK), one_bit_blocks[i]);
+        known("one-bit-block", of(zeros, DES_KEY), one_bit(i, block, DES_BLOCK), one_bit_blocks[i]);
     for (int i = 0; i < 56; i++)
-        des("one-bit-key", one_bit(i, key, DES_KEY), of(zeros, DES_BLOCK), one_bit_keys[i]);
+        known("one-bit-key", one_bit(i, key, DES_KEY), of(zeros, DES_BLOCK), one_bit_keys[i]);
     for (size_t i = 0; i < sizeof permutation / sizeof *permutation; i++)
-        des("permutation", without_parity(permutation[i][0], key), of(zeros, DES_BLOCK), permutation[i][1]);
+        known("permutation", without_parity(permutation[i][0], key), of(zeros, DES_BLOCK), permutation[i][1]);
     for (size_t i = 0; i < sizeof substitution / sizeof *substitution; i++)
-        des("substitution", without_parity(substitution[i][0], key), of(block, unhex(substitution[i][1], block)), substitution[i][2]);
-    unhex(password_hash, hash);
-    unhex(challenge, block);
-    for (int i = 0; i < 3; i++)
-        des("nt-response", of(hash + DES_KEY * i, DES_KEY), of(block, DES_BLOCK), nt_response[i]);
-    for (int i = 0; i < 2; i++)
-        des("raw-key", without_parity(parity_corrected[i], key), of(block, DES_BLOCK), NULL);
-    des("key-of-0", of(zeros, 0), of(zeros, 8), NULL);
-    des("key-of-6", of(zeros, 6), of(zeros, 8), NULL);
-    des("key-of-8", of(zeros, 8), of(zeros, 8), NULL);
-    des("block-of-0", of(zeros, 7), of(zeros, 0), NULL);
-    des("block-of-7", of(zeros, 7), of(zeros, 7), NULL);
-    des("block-of-9", of(zeros, 7), of(zeros, 9), NULL);
-    des("both", of(zeros, 8), of(zeros, 7), NULL);
+        known("substitution", without_parity(substitution[i][0], key), printed(substitution[i][1], block), substitution[i][2]);
+    responses();
+    refusals();
     return 0;
 }
