@@ -7,7 +7,7 @@
 #include <stdlib.h>
 #include <string.h>
 
-enum { SHORT_RUN = 50, LONG_RUN = 3 * 4096, MOST_LOST = 4094 };
+enum { SHORT_RUN = 50, LONG_RUN = 3 * 4096, PLACED_RUN = 24000, PERIOD = 8000, MOST_LOST = 4094 };
 
 /* An input as two arguments: a part of length 0 has a null pointer. */
 #define IN(k) (t->in[k].n > 0 ? t->in[k].at : NULL), t->in[k].n
@@ -400,23 +400,32 @@ static void seal_next(void)
 {
     do {
         make_plain(&run.plain);
-        step(&seal_in_run, &run.sender, &run.plain, one_in(10) ? below(40) : FRONT + run.plain.n + below(3));
+        step(&seal_in_run, &run.sender, &run.plain, one_in(20) ? below(40) : FRONT + run.plain.n - one_in(20) + below(3));
     } while (given.number != DONE);
     copy(&run.packet, &given.lent[1]);
     run.packet.n = FRONT + run.plain.n;
 }
 
-/* A call of open that the table refuses: a damaged packet, a repeat, or too little room. It must leave the record as it was. */
+/* How many key changes a packet asks of a record. */
+static unsigned distance(const octets *record, const octets *packet)
+{
+    return (256u * (packet->at[2] - record->at[AT_COUNT]) + packet->at[3] - record->at[AT_COUNT + 1]) % 4096;
+}
+
+/* A call of open that the table refuses: a damaged packet, a repeat, or too little room. It must leave the record as it was. Of those
+   with hundreds of key changes to make only some are tried. */
 static void refused_open(void)
 {
     static octets packet, record, out;
-    size_t room = one_in(4) ? 0 : LONGEST_PLAIN;
+    size_t room = one_in(8) ? 0 : one_in(8) ? run.plain.n - 1 : LONGEST_PLAIN;
 
     copy(&packet, &run.packet);
     copy(&record, &run.receiver);
     fill(&out, room);
     if (!one_in(4))
         damage_arriving(&run.receiver, &packet);
+    if (distance(&record, &packet) > 100 && !one_in(50))
+        return;
     if (oracle_open(whole(&record), part_of(&packet), whole(&out)).number == DONE)
         return;
     copy(&record, &run.receiver);
@@ -436,32 +445,70 @@ static void arrive(void)
     run.arrivals++;
 }
 
-/* A run: packets sealed, some lost, in a long run once as many in a row as may be, and refused calls in between. */
+/* Now and then some calls of open that are refused. */
+static void disturb(void)
+{
+    for (bool more = one_in(4); more; more = one_in(2))
+        refused_open();
+}
+
+/* One packet sealed, and lost or opened, with refused calls before it and behind. */
+static void pass(bool arrives)
+{
+    seal_next();
+    disturb();
+    if (!arrives) {
+        run.lost++;
+        return;
+    }
+    arrive();
+    disturb();
+}
+
+/* Both ends of a new link. */
+static void begin(unsigned bits)
+{
+    make_begin(&run.sender, bits);
+    copy(&run.receiver, &run.sender);
+    run.lost = 0;
+}
+
+/* A run: packets sealed, some lost, in a long run once as many in a row as may be. */
 static void run_link(unsigned long packets)
 {
     bool far = packets > MOST_LOST;
     unsigned long left = far && one_in(2) ? MOST_LOST : 0;
 
-    make_begin(&run.sender);
-    copy(&run.receiver, &run.sender);
-    run.lost = 0;
+    begin(strength_bits((unsigned)below(3)));
     for (; packets > 0; packets--) {
-        seal_next();
         if (run.lost == 0 && left == 0 && one_in(4))
             left = far && one_in(200) ? MOST_LOST : 1 + below(5);
         far = far && left < MOST_LOST;
-        for (bool more = one_in(run.lost < 20 ? 4 : 200); more; more = one_in(2))
-            refused_open();
-        if (left > 0) {
-            left--;
-            run.lost++;
-        } else {
-            arrive();
-        }
+        pass(left == 0);
+        left -= left > 0;
     }
 }
 
-/* Runs until as many packets are sealed as asked for: many short ones and a long one that wraps. */
+/* Whether packet k of a run with placed losses arrives: none of the first 4,094 of each period, then the next one and the period's last;
+   of the others none of a burst of 32 in each 256, and three in four besides. */
+static bool arrives(unsigned long k)
+{
+    unsigned long place = k % PERIOD;
+
+    if (place < MOST_LOST)
+        return false;
+    return place == MOST_LOST || place == PERIOD - 1 || (place / 32 % 8 != 0 && !one_in(4));
+}
+
+/* A run with placed losses. */
+static void run_placed(unsigned bits)
+{
+    begin(bits);
+    for (unsigned long k = 0; k < PLACED_RUN; k++)
+        pass(arrives(k));
+}
+
+/* Runs until as many packets are sealed as asked for: many short ones, a long one that wraps, and one with placed losses at each strength. */
 static unsigned long compare_runs(unsigned long seed, unsigned long packets)
 {
     seeded(seed, sizeof calls / sizeof calls[0]);
@@ -469,6 +516,8 @@ static unsigned long compare_runs(unsigned long seed, unsigned long packets)
     for (unsigned long done = 0; done < packets; done += SHORT_RUN)
         run_link(SHORT_RUN);
     run_link(LONG_RUN);
+    for (unsigned k = 0; k < 3; k++)
+        run_placed(strength_bits(k));
     printf("runs of a link: %lu calls, all equal; %lu arrivals\n", run.calls, run.arrivals);
     return run.calls;
 }

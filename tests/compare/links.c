@@ -40,11 +40,10 @@ static unsigned count_of(const octets *record)
     return 256u * record->at[AT_COUNT] + record->at[AT_COUNT + 1];
 }
 
-/* The record of a new link. */
-void make_begin(octets *record)
+/* The record of a new link at a strength. */
+void make_begin(octets *record, unsigned bits)
 {
     static octets start;
-    unsigned bits = strength_bits((unsigned)below(3));
 
     fill(&start, key_length(bits));
     fill(record, RECORD_OCTETS);
@@ -57,7 +56,7 @@ void make_right_record(octets *record)
     octet session[KEY_PLACES];
     unsigned bits;
 
-    make_begin(record);
+    make_begin(record, strength_bits((unsigned)below(3)));
     bits = record->at[0];
     for (size_t k = 0; k < key_length(bits); k++)
         record->at[AT_SESSION + k] = (octet)below(256);
@@ -97,7 +96,7 @@ void make_plain(octets *plain)
 {
     static const octet edges[] = {0x20, 0x21, 0xFA, 0xFB};
 
-    fill(plain, within(SHORTEST_PLAIN, LONGEST_PLAIN));
+    fill(plain, one_in(50) ? 0 : within(SHORTEST_PLAIN, LONGEST_PLAIN));
     if (plain->n < SHORTEST_PLAIN)
         return;
     plain->at[0] = one_in(20) ? (octet)below(3) : 0;
@@ -121,15 +120,15 @@ static void make_sealed(const octets *record, unsigned distance, octets *packet)
     oracle_seal(whole(&sender), part_of(&plain), whole(packet));
 }
 
-/* One damage to a packet: its first octets, its flags, its count, an octet of its data, its protocol number, or its length. */
+/* One damage to a packet: its first octets, its flags, its count, an octet of its data, its protocol number, or its length; or noise. */
 void damage_arriving(const octets *record, octets *packet)
 {
-    switch (below(7)) {
+    switch (below(8)) {
     case 0:
         packet->at[below(2)] ^= (octet)(1 << below(8));
         break;
     case 1:
-        packet->at[2] ^= (octet)(0x10 << below(4));
+        packet->at[2] ^= (octet)(one_in(5) ? 0x90 : 0x10 << below(4));
         break;
     case 2:
         packet->at[2] = (octet)((packet->at[2] & 0xF0) | (count_of(record) / 256 % 16));
@@ -143,6 +142,9 @@ void damage_arriving(const octets *record, octets *packet)
         break;
     case 5:
         packet->n = below(9);
+        break;
+    case 6:
+        fill(packet, below(1601));
         break;
     default:
         fill(packet, one_in(2) ? FRONT + LONGEST_PLAIN + below(3) : below(40));

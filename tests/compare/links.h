@@ -14,8 +14,8 @@ unsigned make_bits(void);
 buffer whole(octets *o);
 part part_of(const octets *o);
 
-/* The record of a new link; a well formed one made by hand; one damage to a record. */
-void make_begin(octets *record);
+/* The record of a new link at a strength; a well formed one made by hand; one damage to a record. */
+void make_begin(octets *record, unsigned bits);
 void make_right_record(octets *record);
 void damage_record(octets *record);
 
