@@ -1,4 +1,4 @@
-// Links, packets sealed and opened, every set of rows that refuse them, and a line between a sender and a receiver that loses packets.
+// Links, packets sealed and opened, and every set of rows that refuse them.
 ghost use Prim.Native.Nat.{_<_};
 use libc::STDOUT_FILENO;
 use mppe::Link;
@@ -7,7 +7,6 @@ use mppe::Outcome;
 use mppe_keys::Strength;
 
 mod cases;
-mod line;
 
 // The octets of a buffer, more than any packet has.
 const LENT: usize = 1600;
@@ -24,9 +23,6 @@ fn main() {
     cases::all(Strength::Bits40);
     cases::all(Strength::Bits56);
     cases::all(Strength::Bits128);
-    line::passage(Strength::Bits40);
-    line::passage(Strength::Bits56);
-    line::passage(Strength::Bits128);
 }
 
 // A new link of the samples' start key.
