@@ -326,15 +326,20 @@ worked-is {next} far l h (ef, en, ec) new =
     let long = changed-length (l .strength) (startKeyIn l) (sessionKeyIn l) (changesFor l h) λ z. new (ef ∙ z) in
     (is, ec ∙ rw (is, key-back (l .strength) (keyFor l h) long))
 
+-- what it deciphers
+deciphered : {cipher : Rc4} (l : Link) (h : ℕ) (text : List ℕ) → cipher ≡ keySchedule (keyFor l h) → run cipher text ≡ plainFor l h text
+unfolding plainFor
+deciphered l h text keyed = ap (λ (s : Rc4). run s text) keyed
+
 -- data refused by the last row
 pub data-off : {code far : ℕ} {next : Link} {cipher : Rc4} {off : Bool} {r : Outcome} (l : Link) (h : ℕ) (text out : List ℕ)
     → code ≡ headerCode h far (length text) (length out) → code ≡ done → Worked l h far next cipher
     → off ≡ offProtocol (run cipher text) → off ≡ true → r ≡ refusal protocol l [] .outcome → Gives r out (dataResult l h text out)
-unfolding dataResult plainFor
+unfolding dataResult
 data-off {code} {far} l h text out e z made eo t er =
     let (new, fits, last) = data-passed far l h text (length out) e z in
     let (is, keyed) = worked-is far l h made new in
-    let off : offProtocol (plainFor l h text) ≡ true = unfold plainFor in rw (← keyed) (sym eo ∙ t) in
+    let off : offProtocol (plainFor l h text) ≡ true = ap offProtocol (sym (deciphered l h text keyed)) ∙ sym eo ∙ t in
     let code : protocol ≡ firstOf (headerRows l h ++ dataRows l h text (length out)) = sym (last (made .0) ∙ rw off) in
     refused-is _ (firstOf (headerRows l h ++ dataRows l h text (length out))) l out code (λ q. omega (arith, q)) er
 
@@ -343,11 +348,12 @@ pub data-opened : {code far : ℕ} {next : Link} {cipher : Rc4} {off : Bool} {ou
     → code ≡ headerCode h far (length text) (length out) → code ≡ done → Worked l h far next cipher
     → off ≡ offProtocol (run cipher text) → off ≡ false → out₁ ≡ runOut cipher text out → length text ≤ longestPlain
     → Gives (record { answer = done; changes = far; link = next }) out₁ (dataResult l h text out)
-unfolding dataResult plainFor
+unfolding dataResult
 data-opened {code} {far} {next} {cipher} {off} {out₁} l h text out e z made eo t er small =
     let (new, fits, last) = data-passed far l h text (length out) e z in
     let (is, keyed) = worked-is far l h made new in
-    let off : offProtocol (plainFor l h text) ≡ false = unfold plainFor in rw (← keyed) (sym eo ∙ t) in
+    let plain = deciphered l h text keyed in
+    let off : offProtocol (plainFor l h text) ≡ false = ap offProtocol (sym plain) ∙ sym eo ∙ t in
     let code : firstOf (headerRows l h ++ dataRows l h text (length out)) ≡ done = last (made .0) ∙ rw off in
-    let ran : out₁ ≡ written (plainFor l h text) out = unfold plainFor in er ∙ run-done cipher text out (omega arith) fits .1 ∙ rw keyed in
+    let ran : out₁ ≡ written (plainFor l h text) out = er ∙ run-done cipher text out (omega arith) fits .1 ∙ ap (λ (p : List ℕ). written p out) plain in
     rw (code, is, made .0) (refl, ran)

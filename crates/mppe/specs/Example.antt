@@ -1,6 +1,6 @@
 -- A run that meets demand 3's schedule, for every strength and start key: noise comes before the first arrival, of four packets the line
 -- loses the first and the last, the second is handed to open twice, and noise comes before the third. So the claim is not empty; and
--- what it says of this run.
+-- what it says of this run. First, what is due to any call that is no arrival.
 use mathlib.Core.Path.{_≡_, refl, ap, subst⁻¹, _∙_}
 use mathlib.Core.List.{List, [], _∷_, _++_, map}
 use Prim.Native.Nat.{ℕ, _≤_}
@@ -14,6 +14,13 @@ use Rattle.mppe.specs.declared.Link.{Link}
 use Rattle.mppe.specs.Link.{longestPlain, newLink, Result, finished, refusal, openCode}
 use Rattle.mppe.specs.Run.{mostLost, SealCall, OpenCall, arrival, other, Packet, sealRun, openRun, first, beginning, saidCode, packetOf, onward, packets, said, numbered, Meets, due, Demand3}
 use Rattle.mppe.specs.Demand3.{keyAt, recordAt, historyAt, packetAt, start-length, first-is, well-at, packet-is, repeat-code, demand-3-base}
+
+-- what is due to a call that is no arrival, also where no schedule is met: the first number that applies, and nothing moves
+pub due-other : (limit : ℕ) (s : Strength) (start : List ℕ) (sealed : List Packet) (next : ℕ) (held : Link) (octets room : List ℕ) (cs : List OpenCall)
+    → due limit s start sealed next held (other octets room ∷ cs)
+    ≡ refusal (openCode limit held octets (length room)) held room ∷ due limit s start sealed next held cs
+unfolding due
+due-other limit s start sealed next held octets room cs = refl
 
 abbrev plain₀ : List ℕ
 plain₀ = 0x00 ∷ 0x21 ∷ 0x45 ∷ []
@@ -122,10 +129,3 @@ module _ (s : Strength) (start : List ℕ) where
   run-opens ok =
       let h = start-length s start ok in
       demand-3-base s start ok seals (opens sealed) (meets ok) .1 ∙ rw (sealed-four h) (due-four h)
-
--- what is due to a call that is no arrival, also where no schedule is met: the first number that applies, and nothing moves
-pub due-other : (limit : ℕ) (s : Strength) (start : List ℕ) (sealed : List Packet) (next : ℕ) (held : Link) (octets room : List ℕ) (cs : List OpenCall)
-    → due limit s start sealed next held (other octets room ∷ cs)
-    ≡ refusal (openCode limit held octets (length room)) held room ∷ due limit s start sealed next held cs
-unfolding due
-due-other limit s start sealed next held octets room cs = refl

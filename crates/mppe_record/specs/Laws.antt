@@ -9,13 +9,13 @@ use lib.ListN.{length, take, drop, getD, replicate, length-append, take-append-d
 use lib.Seq.{length-take-le, take-at, drop-at, take-add, drop-cons, getD-drop}
 use borrow.Author.Tests.{eq-eqb, eqb-true}
 use Rattle.answer.specs.Answer.{done, size, notRecord, firstOf, onDone}
-use Rattle.octets.specs.Octets.{bigEndian}
+use Rattle.octets.specs.Octets.{bigEndian, pairAt}
 use Rattle.mppe_keys.specs.declared.Strength.{Strength}
 use Rattle.mppe_keys.specs.declared.Strength.the-variants.{Bits40, Bits56, Bits128}
 use Rattle.mppe_keys.specs.Keys.{bitsOf, keyLength, initialKey}
 use Rattle.mppe_keys.specs.Laws.{key-most, placed-length, initialKey-length, keyChange-length, changes-length}
 use Rattle.mppe.specs.declared.Link.{Link}
-use Rattle.mppe.specs.Link.{Result, pairAt, startKeyIn, sessionKeyIn, linkOf, newLink, refusal, sealCode, sealResult, nextKey, changesFor, keyFor, openCode, openResult}
+use Rattle.mppe.specs.Link.{Result, startKeyIn, sessionKeyIn, linkOf, newCount, newLink, refusal, sealCode, sealResult, nextKey, headerIn, changesFor, keyFor, openCode, openResult}
 use Rattle.mppe_record.specs.declared.RecordRead.{RecordRead}
 use Rattle.mppe_record.specs.Record.{strengthOf, noStrength, recordLength, recordOctets, recordIn, noRecord, recordRead}
 
@@ -117,7 +117,7 @@ unfolding newLink
 new-sized s start = go (eqb (length start) (keyLength s)) refl
   where
     go : (t : Bool) → eqb (length start) (keyLength s) ≡ t
-        → Sized (onDone (firstOf ((size, not t) ∷ [])) (linkOf s start (initialKey s start) 4095) (record { strength = s; start = replicate 16 0; session = replicate 16 0; count = 0 }))
+        → Sized (onDone (firstOf ((size, not t) ∷ [])) (linkOf s start (initialKey s start) newCount) (record { strength = s; start = replicate 16 0; session = replicate 16 0; count = 0 }))
     go true h = (placed-length start (omega (arith, eqb-true (length start) (keyLength s) h, key-most s)), placed-length (initialKey s start) (omega (arith, initialKey-length s start, key-most s)), omega arith)
     go false h = (refl, refl, omega arith)
 
@@ -136,6 +136,7 @@ pub open-sized : (limit : ℕ) (l : Link) (packet out : List ℕ) → Sized l �
 unfolding openResult keyFor
 open-sized limit l packet out (hs, hk, hc) =
     let session : length (sessionKeyIn l) ≡ keyLength (l .strength) = length-take-le (keyLength (l .strength)) (l .session) (omega (arith, key-most (l .strength))) in
-    let key : length (keyFor l packet) ≡ keyLength (l .strength) = changes-length (l .strength) (startKeyIn l) (changesFor l packet) (sessionKeyIn l) session in
-    let places = placed-length (keyFor l packet) (omega (arith, key-most (l .strength))) in
+    let h : ℕ = headerIn packet in
+    let key : length (keyFor l h) ≡ keyLength (l .strength) = changes-length (l .strength) (startKeyIn l) (changesFor l h) (sessionKeyIn l) session in
+    let places = placed-length (keyFor l h) (omega (arith, key-most (l .strength))) in
     kept (openCode limit l packet (length out)) _ l out (hs, places, omega arith) (hs, hk, hc)

@@ -5,12 +5,11 @@ use Prim.Native.Nat.{ℕ}
 use lib.Dec.{eqb}
 use lib.ListN.{take, drop, getD, replicate}
 use Rattle.answer.specs.Answer.{done, notRecord, pick, firstOf, onDone, wrong}
-use Rattle.octets.specs.Octets.{bigEndian}
+use Rattle.octets.specs.Octets.{bigEndian, pairAt}
 use Rattle.mppe_keys.specs.declared.Strength.{Strength}
 use Rattle.mppe_keys.specs.declared.Strength.the-variants.{Bits40, Bits56, Bits128}
 use Rattle.mppe_keys.specs.Keys.{bitsOf}
 use Rattle.mppe.specs.declared.Link.{Link}
-use Rattle.mppe.specs.Link.{pairAt}
 use Rattle.mppe_record.specs.declared.RecordRead.{RecordRead}
 
 -- the strength of a number of bits; 40 bits for a number that is no strength
