@@ -7,7 +7,7 @@ use lib.ListN.{length, take, drop, set, replicate, length-append, length-drop, l
 use lib.Seq.{length-take-le, take-all, set-append-seam}
 use Rattle.octets.specs.declared.Order.{Order}
 use Rattle.octets.specs.declared.Order.the-variants.{HighestFirst, LowestFirst}
-use Rattle.octets.proofs.Laws.{drop-zeros, append-more}
+use Rattle.octets.specs.Laws.{drop-zeros, append-more}
 use Rattle.octets.specs.Octets.{octetsOf, written, writtenAt}
 use Rattle.blocks.specs.declared.Tail.{Tail}
 use Rattle.blocks.specs.Blocks.{tailOf, ending}

@@ -19,7 +19,7 @@ use Rattle.ccp.specs.declared.Strengths.{Strengths}
 use Rattle.ccp.specs.declared.Offer.{Offer}
 use Rattle.ccp.specs.declared.Reply.the-variants.{Accept, CounterOffer, Refused}
 use Rattle.ccp.specs.Option.{optionType, optionLength, bitH, bitM, bitS, bitL, isSet, modeOf, strengthsOf, modeBit, wordOf, optionOctets, common, noneOf, strongest, choiceWord}
-use Rattle.ccp.specs.Answers.{readNumber, supportedBits, readAnswer, writeNumber, writeOut, replyNumber, chosen, replyWith, replyAnswer}
+use Rattle.ccp.specs.Answers.{readCode, supportedBits, readAnswer, writeCode, writeOut, replyCode, chosen, replyWith, replyAnswer}
 
 -- bit H, tested
 pub mode-told : (word : ℕ) {s t : Bool} → t ≡ isSet word bitH → t ≡ s → pick s Stateless Stateful ≡ modeOf word
@@ -44,48 +44,48 @@ pub octets-read : {bits : List ℕ} (word : ℕ) → bits ≡ writtenIfRoom (wor
 octets-read word e = rw e
 
 -- an option's shape, test by test
-pub wrong-size : (option : List ℕ) → (length option ≡ optionLength → ⊥) → readNumber option ≡ shape
-unfolding readNumber
+pub wrong-size : (option : List ℕ) → (length option ≡ optionLength → ⊥) → readCode option ≡ shape
+unfolding readCode
 wrong-size option h = rw (ne-eqb (length option) optionLength h)
 
-pub wrong-type : (option : List ℕ) → length option ≡ optionLength → (getD option 0 0 ≡ optionType → ⊥) → readNumber option ≡ shape
-unfolding readNumber
+pub wrong-type : (option : List ℕ) → length option ≡ optionLength → (getD option 0 0 ≡ optionType → ⊥) → readCode option ≡ shape
+unfolding readCode
 wrong-type option h ht = rw (eq-eqb (length option) optionLength h, ne-eqb (getD option 0 0) optionType ht)
 
-pub wrong-length : (option : List ℕ) → length option ≡ optionLength → getD option 0 0 ≡ optionType → (getD option 1 0 ≡ optionLength → ⊥) → readNumber option ≡ shape
-unfolding readNumber
+pub wrong-length : (option : List ℕ) → length option ≡ optionLength → getD option 0 0 ≡ optionType → (getD option 1 0 ≡ optionLength → ⊥) → readCode option ≡ shape
+unfolding readCode
 wrong-length option h ht hl = rw (eq-eqb (length option) optionLength h, eq-eqb (getD option 0 0) optionType ht, ne-eqb (getD option 1 0) optionLength hl)
 
-pub right-shape : (option : List ℕ) → length option ≡ optionLength → getD option 0 0 ≡ optionType → getD option 1 0 ≡ optionLength → readNumber option ≡ done
-unfolding readNumber
+pub right-shape : (option : List ℕ) → length option ≡ optionLength → getD option 0 0 ≡ optionType → getD option 1 0 ≡ optionLength → readCode option ≡ done
+unfolding readCode
 right-shape option h ht hl = rw (eq-eqb (length option) optionLength h, eq-eqb (getD option 0 0) optionType ht, eq-eqb (getD option 1 0) optionLength hl)
 
 -- the bits of an option of wrong shape, and of right shape
-pub no-bits : (option : List ℕ) {r : Bits} → readNumber option ≡ shape → r ≡ record { answer = shape; word = 0 }
-    → (r .answer ≡ readNumber option) × (r .word ≡ supportedBits option)
+pub no-bits : (option : List ℕ) {r : Bits} → readCode option ≡ shape → r ≡ record { answer = shape; word = 0 }
+    → (r .answer ≡ readCode option) × (r .word ≡ supportedBits option)
 unfolding supportedBits
 no-bits option n e = rw (e, n) (refl, refl)
 
-pub bits-read : (option : List ℕ) {word : ℕ} → readNumber option ≡ done → word ≡ wordBE option 2
-    → (done ≡ readNumber option) × (word ≡ supportedBits option)
+pub bits-read : (option : List ℕ) {word : ℕ} → readCode option ≡ done → word ≡ wordBE option 2
+    → (done ≡ readCode option) × (word ≡ supportedBits option)
 unfolding supportedBits
 bits-read option n e = rw n (refl, e)
 
 -- what is read
-pub offered : (option : List ℕ) {bits : Bits} {mode : Mode} {strengths : Strengths} → (bits .answer ≡ readNumber option) × (bits .word ≡ supportedBits option)
+pub offered : (option : List ℕ) {bits : Bits} {mode : Mode} {strengths : Strengths} → (bits .answer ≡ readCode option) × (bits .word ≡ supportedBits option)
     → mode ≡ modeOf (bits .word) → strengths ≡ strengthsOf (bits .word)
     → _≡_ {A = Offer} (record { answer = bits .answer; mode = mode; strengths = strengths }) (readAnswer option)
 unfolding readAnswer
 offered option b m s = rw (m, s, b .0, b .1)
 
 -- what is written
-pub no-room : (mode : Mode) (s : Strengths) (out : List ℕ) → length out < optionLength → (room ≡ writeNumber out) × (out ≡ writeOut mode s out)
+pub no-room : (mode : Mode) (s : Strengths) (out : List ℕ) → length out < optionLength → (room ≡ writeCode out) × (out ≡ writeOut mode s out)
 unfolding writeOut
 no-room mode s out h = rw (lt-ltb (length out) optionLength h) (refl, refl)
 
 pub option-written : (mode : Mode) (s : Strengths) (out : List ℕ) {word : ℕ} {option out′ : List ℕ} → optionLength ≤ length out → word ≡ wordOf mode s
     → option ≡ optionType ∷ optionLength ∷ bigEndian 4 word → out′ ≡ written (take (length out) option) out
-    → (done ≡ writeNumber out) × (out′ ≡ writeOut mode s out)
+    → (done ≡ writeCode out) × (out′ ≡ writeOut mode s out)
 unfolding writeOut optionOctets
 option-written mode s out h ew eo e =
     rw (le-ltb (length out) optionLength h) (refl, e ∙ rw (eo, ew, take-all (length out) (optionType ∷ optionLength ∷ bigEndian 4 (wordOf mode s)) h))
@@ -96,26 +96,26 @@ picked-from : (option : List ℕ) (allowed : Strengths) {word : ℕ} {offers usa
 picked-from option allowed ew eo eu = eu ∙ ap (λ (o : Strengths). common o allowed) (eo ∙ ap strengthsOf ew)
 
 -- what is replied
-pub reply-shape : (option : List ℕ) (allowed : Strengths) {bits : Bits} → (bits .answer ≡ readNumber option) × (bits .word ≡ supportedBits option)
+pub reply-shape : (option : List ℕ) (allowed : Strengths) {bits : Bits} → (bits .answer ≡ readCode option) × (bits .word ≡ supportedBits option)
     → (bits .answer ≡ done → ⊥) → Refused shape ≡ replyAnswer option allowed
-unfolding replyAnswer replyNumber
-reply-shape option allowed b h = rw (ne-eqb (readNumber option) done (λ e. h (b .0 ∙ e)))
+unfolding replyAnswer replyCode
+reply-shape option allowed b h = rw (ne-eqb (readCode option) done (λ e. h (b .0 ∙ e)))
 
 pub reply-none : (option : List ℕ) (allowed : Strengths) {bits : Bits} {offers usable : Strengths} {none : Bool}
-    → (bits .answer ≡ readNumber option) × (bits .word ≡ supportedBits option) → bits .answer ≡ done → offers ≡ strengthsOf (bits .word)
+    → (bits .answer ≡ readCode option) × (bits .word ≡ supportedBits option) → bits .answer ≡ done → offers ≡ strengthsOf (bits .word)
     → usable ≡ common offers allowed → none ≡ noneOf usable → none ≡ true → Refused strength ≡ replyAnswer option allowed
-unfolding replyAnswer replyNumber
+unfolding replyAnswer replyCode
 reply-none option allowed b h eo eu ea ht =
     let used = picked-from option allowed (b .1) eo eu in
-    rw (eq-eqb (readNumber option) done (sym (b .0) ∙ h), sym (ap noneOf used) ∙ sym ea ∙ ht)
+    rw (eq-eqb (readCode option) done (sym (b .0) ∙ h), sym (ap noneOf used) ∙ sym ea ∙ ht)
 
 pub reply-choice : (option : List ℕ) (allowed : Strengths) {bits : Bits} {offers usable : Strengths} {none same : Bool} {best : Strength} {word : ℕ}
-    → (bits .answer ≡ readNumber option) × (bits .word ≡ supportedBits option) → bits .answer ≡ done → offers ≡ strengthsOf (bits .word)
+    → (bits .answer ≡ readCode option) × (bits .word ≡ supportedBits option) → bits .answer ≡ done → offers ≡ strengthsOf (bits .word)
     → usable ≡ common offers allowed → none ≡ noneOf usable → none ≡ false → best ≡ strongest usable
     → word ≡ choiceWord (record { strength = best; mode = Stateless }) → eqb (bits .word) word ≡ same
     → pick same (Accept (record { strength = best; mode = Stateless })) (CounterOffer (record { strength = best; mode = Stateless })) ≡ replyAnswer option allowed
-unfolding replyAnswer replyNumber replyWith chosen
+unfolding replyAnswer replyCode replyWith chosen
 reply-choice option allowed b h eo eu ea ht eb ew es =
     let used = picked-from option allowed (b .1) eo eu in
     let best = eb ∙ ap strongest used in
-    rw (eq-eqb (readNumber option) done (sym (b .0) ∙ h), sym (ap noneOf used) ∙ sym ea ∙ ht, ← best, ← b .1, ← ew, es)
+    rw (eq-eqb (readCode option) done (sym (b .0) ∙ h), sym (ap noneOf used) ∙ sym ea ∙ ht, ← best, ← b .1, ← ew, es)

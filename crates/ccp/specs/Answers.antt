@@ -16,8 +16,8 @@ use Rattle.ccp.specs.declared.Reply.the-variants.{Accept, CounterOffer, 
 use Rattle.ccp.specs.Option.{optionType, optionLength, modeOf, strengthsOf, optionOctets, common, noneOf, strongest, choiceWord}
 
 -- the number for an option to be read: "Wrong type, length or slice other than six octets: 1"
-unfoldable pub readNumber : List ℕ → ℕ
-readNumber option =
+unfoldable pub readCode : List ℕ → ℕ
+readCode option =
     firstOf
     ((shape, wrong optionLength option)
     ∷ (shape, not (eqb (getD option 0 0) optionType))
@@ -26,28 +26,28 @@ readNumber option =
 
 -- the supported bits of an option; none where it is refused
 unfoldable pub supportedBits : List ℕ → ℕ
-supportedBits option = onDone (readNumber option) (wordBE option 2) 0
+supportedBits option = onDone (readCode option) (wordBE option 2) 0
 
 -- a refused option has no bit, so it offers no strength and its mode is that of bit H at 0
 unfoldable pub readAnswer : List ℕ → Offer
-readAnswer option = record { answer = readNumber option; mode = modeOf (supportedBits option); strengths = strengthsOf (supportedBits option) }
+readAnswer option = record { answer = readCode option; mode = modeOf (supportedBits option); strengths = strengthsOf (supportedBits option) }
 
 -- the number for a lent buffer
-abbrev pub writeNumber : List ℕ → ℕ
-writeNumber out = firstOf ((room, ltb (length out) optionLength) ∷ [])
+abbrev pub writeCode : List ℕ → ℕ
+writeCode out = firstOf ((room, ltb (length out) optionLength) ∷ [])
 
 -- the lent buffer, with the option in front where it has room
 unfoldable pub writeOut : Mode → Strengths → List ℕ → List ℕ
-writeOut mode strengths out = onDone (writeNumber out) (written (optionOctets mode strengths) out) out
+writeOut mode strengths out = onDone (writeCode out) (written (optionOctets mode strengths) out) out
 
 -- strengths that are both offered by an option and allowed
 abbrev pub usable : List ℕ → Strengths → Strengths
 usable option allowed = common (strengthsOf (supportedBits option)) allowed
 
 -- the number for an option to be replied to: "Option reply: 1, 8"
-unfoldable pub replyNumber : List ℕ → Strengths → ℕ
-replyNumber option allowed =
-    firstOf ((shape, not (eqb (readNumber option) done)) ∷ (strength, noneOf (usable option allowed)) ∷ [])
+unfoldable pub replyCode : List ℕ → Strengths → ℕ
+replyCode option allowed =
+    firstOf ((shape, not (eqb (readCode option) done)) ∷ (strength, noneOf (usable option allowed)) ∷ [])
 
 -- "the strongest strength that is offered and allowed, with H set"
 unfoldable pub chosen : List ℕ → Strengths → Choice
@@ -59,17 +59,17 @@ replyWith word choice = pick (eqb word (choiceWord choice)) (Accept choice) (Cou
 
 unfoldable pub replyAnswer : List ℕ → Strengths → Reply
 replyAnswer option allowed =
-    onDone (replyNumber option allowed) (replyWith (supportedBits option) (chosen option allowed)) (Refused (replyNumber option allowed))
+    onDone (replyCode option allowed) (replyWith (supportedBits option) (chosen option allowed)) (Refused (replyCode option allowed))
 
 -- the word of a reply: that of the choice, and 0 where it is refused
 unfoldable pub repliedWord : List ℕ → Strengths → ℕ
-repliedWord option allowed = onDone (replyNumber option allowed) (choiceWord (chosen option allowed)) 0
+repliedWord option allowed = onDone (replyCode option allowed) (choiceWord (chosen option allowed)) 0
 
 -- the paper's number of a reply ..
-abbrev pub numberOf : Reply → ℕ
-numberOf (Accept choice) = done
-numberOf (CounterOffer choice) = done
-numberOf (Refused number) = number
+abbrev pub replyCodeOf : Reply → ℕ
+replyCodeOf (Accept choice) = done
+replyCodeOf (CounterOffer choice) = done
+replyCodeOf (Refused number) = number
 
 -- .. and its supported bits
 abbrev pub replyWord : Reply → ℕ

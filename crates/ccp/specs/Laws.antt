@@ -19,14 +19,14 @@ use Rattle.ccp.specs.declared.Offer.{Offer}
 use Rattle.ccp.specs.declared.Choice.{Choice}
 use Rattle.ccp.specs.declared.Reply.the-variants.{Accept, CounterOffer, Refused}
 use Rattle.ccp.specs.Option.{optionLength, modeOf, strengthsOf, wordOf, optionOctets, noneOf, strongest, choiceWord}
-use Rattle.ccp.specs.Answers.{readNumber, supportedBits, readAnswer, writeNumber, writeOut, usable, replyNumber, repliedWord, chosen, replyWith, replyAnswer, numberOf, replyWord}
+use Rattle.ccp.specs.Answers.{readCode, supportedBits, readAnswer, writeCode, writeOut, usable, replyCode, repliedWord, chosen, replyWith, replyAnswer, replyCodeOf, replyWord}
 
 -- what is written reads back to the same mode and strengths
 reads-back : (mode : Mode) (bits40 bits56 bits128 : Bool)
     → _≡_ {A = Offer}
     (readAnswer (optionOctets mode (record { bits40 = bits40; bits56 = bits56; bits128 = bits128 })))
     (record { answer = done; mode = mode; strengths = record { bits40 = bits40; bits56 = bits56; bits128 = bits128 } })
-unfolding readAnswer readNumber supportedBits optionOctets wordOf modeOf strengthsOf
+unfolding readAnswer readCode supportedBits optionOctets wordOf modeOf strengthsOf
 reads-back Stateless true true true = refl
 reads-back Stateless true true false = refl
 reads-back Stateless true false true = refl
@@ -44,19 +44,19 @@ reads-back Stateful false true false = refl
 reads-back Stateful false false true = refl
 reads-back Stateful false false false = refl
 
-pub written-reads-back : (mode : Mode) (s : Strengths) (out : List ℕ) → writeNumber out ≡ done
+pub written-reads-back : (mode : Mode) (s : Strengths) (out : List ℕ) → writeCode out ≡ done
     → _≡_ {A = Offer} (readAnswer (take optionLength (writeOut mode s out))) (record { answer = done; mode = mode; strengths = s })
 unfolding writeOut optionOctets
 written-reads-back mode s out e = rw e (reads-back mode (s .bits40) (s .bits56) (s .bits128))
 
 -- the number of a reply is the first row that applies; its word is that of the choice, and 0 where it is refused
 pub reply-told : (option : List ℕ) (allowed : Strengths)
-    → (numberOf (replyAnswer option allowed) ≡ replyNumber option allowed)
+    → (replyCodeOf (replyAnswer option allowed) ≡ replyCode option allowed)
     × (replyWord (replyAnswer option allowed) ≡ repliedWord option allowed)
 unfolding replyAnswer replyWith repliedWord
-reply-told option allowed = go (replyNumber option allowed) (eqb (supportedBits option) (choiceWord (chosen option allowed)))
+reply-told option allowed = go (replyCode option allowed) (eqb (supportedBits option) (choiceWord (chosen option allowed)))
   where
-    go : (n : ℕ) (t : Bool) → (numberOf (onDone n (pick t (Accept (chosen option allowed)) (CounterOffer (chosen option allowed))) (Refused n)) ≡ n)
+    go : (n : ℕ) (t : Bool) → (replyCodeOf (onDone n (pick t (Accept (chosen option allowed)) (CounterOffer (chosen option allowed))) (Refused n)) ≡ n)
         × (replyWord (onDone n (pick t (Accept (chosen option allowed)) (CounterOffer (chosen option allowed))) (Refused n)) ≡ onDone n (choiceWord (chosen option allowed)) 0)
     go zero true = (refl, refl)
     go zero false = (refl, refl)
@@ -66,7 +66,7 @@ reply-told option allowed = go (replyNumber option allowed) (eqb (supportedBits 
 pub accept-word : (option : List ℕ) (allowed : Strengths) (choice : Choice) → replyAnswer option allowed ≡ Accept choice
     → supportedBits option ≡ choiceWord choice
 unfolding replyAnswer replyWith
-accept-word option allowed choice = go (replyNumber option allowed) (eqb (supportedBits option) (choiceWord (chosen option allowed))) refl
+accept-word option allowed choice = go (replyCode option allowed) (eqb (supportedBits option) (choiceWord (chosen option allowed))) refl
   where
     go : (n : ℕ) (t : Bool) → eqb (supportedBits option) (choiceWord (chosen option allowed)) ≡ t
         → onDone n (pick t (Accept (chosen option allowed)) (CounterOffer (chosen option allowed))) (Refused n) ≡ Accept choice
@@ -115,9 +115,9 @@ strongest-most s = go (s .bits40) (s .bits56) (s .bits128)
 -- an accept and a counter-offer carry what was chosen
 carried : (option : List ℕ) (allowed : Strengths) (choice : Choice)
     → (replyAnswer option allowed ≡ Accept choice) ⊎ (replyAnswer option allowed ≡ CounterOffer choice)
-    → (replyNumber option allowed ≡ done) × (chosen option allowed ≡ choice)
+    → (replyCode option allowed ≡ done) × (chosen option allowed ≡ choice)
 unfolding replyAnswer replyWith
-carried option allowed choice = go (replyNumber option allowed) (eqb (supportedBits option) (choiceWord (chosen option allowed)))
+carried option allowed choice = go (replyCode option allowed) (eqb (supportedBits option) (choiceWord (chosen option allowed)))
   where
     go : (n : ℕ) (t : Bool)
         → (onDone n (pick t (Accept (chosen option allowed)) (CounterOffer (chosen option allowed))) (Refused n) ≡ Accept choice)
@@ -131,9 +131,9 @@ carried option allowed choice = go (replyNumber option allowed) (eqb (supportedB
     go (suc n) t (inr h) = (cc, cc)
 
 -- no refusal: there is a strength to pick
-any-usable : (option : List ℕ) (allowed : Strengths) → replyNumber option allowed ≡ done → noneOf (usable option allowed) ≡ false
-unfolding replyNumber
-any-usable option allowed = go (not (eqb (readNumber option) done)) (noneOf (usable option allowed))
+any-usable : (option : List ℕ) (allowed : Strengths) → replyCode option allowed ≡ done → noneOf (usable option allowed) ≡ false
+unfolding replyCode
+any-usable option allowed = go (not (eqb (readCode option) done)) (noneOf (usable option allowed))
   where
     go : (a b : Bool) → firstOf ((shape, a) ∷ (strength, b) ∷ []) ≡ done → b ≡ false
     go true b h = cc

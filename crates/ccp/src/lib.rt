@@ -6,7 +6,7 @@ ghost use mathlib.Core.List.{_∷_};
 ghost use Rattle.answer.specs.Answer.{shape, pick};
 ghost use Rattle.octets.specs.Octets.{bigEndian};
 ghost use Rattle.ccp.specs.Option.{optionType, optionLength, isSet, modeOf, strengthsOf, modeBit, wordOf, common as inCommon, noneOf, strongest as strongestOf, only as alone, choiceWord};
-ghost use Rattle.ccp.specs.Answers.{readNumber, supportedBits, readAnswer, writeNumber, writeOut, replyNumber, repliedWord, replyAnswer, numberOf, replyWord};
+ghost use Rattle.ccp.specs.Answers.{readCode, supportedBits, readAnswer, writeCode, writeOut, replyCode, repliedWord, replyAnswer, replyCodeOf, replyWord};
 
 // The option's type.
 const OPTION_TYPE: u8 = 18;
@@ -75,7 +75,7 @@ pub fn read(option: &[u8]) -> Offer
 
 // Writes an option into the front of a lent buffer; refused as `room` where that is shorter than six octets.
 pub fn write(mode: Mode, strengths: Strengths, out: &mut [u8]) -> u8
-    ensures { λ r. ⌜ (r ≡ writeNumber (now (out .entry))) × (now (out .exit) ≡ writeOut mode strengths (now (out .entry))) ⌝ }
+    ensures { λ r. ⌜ (r ≡ writeCode (now (out .entry))) × (now (out .exit) ≡ writeOut mode strengths (now (out .entry))) ⌝ }
 {
     if out.len() < OPTION_LENGTH as usize {
         return answer::ROOM;
@@ -88,7 +88,7 @@ pub fn write(mode: Mode, strengths: Strengths, out: &mut [u8]) -> u8
 // Replies to a request with the strongest strength that is offered and allowed; refused with 1 as in reading, then with 8 where there is none.
 pub fn reply_to(option: &[u8], allowed: Strengths) -> Reply
     ensures { λ r. ⌜ (r ≡ replyAnswer (now (option .entry)) allowed)
-        × (numberOf r ≡ replyNumber (now (option .entry)) allowed) × (replyWord r ≡ repliedWord (now (option .entry)) allowed) ⌝ }
+        × (replyCodeOf r ≡ replyCode (now (option .entry)) allowed) × (replyWord r ≡ repliedWord (now (option .entry)) allowed) ⌝ }
 {
     reply_of(option, allowed)
 }
@@ -140,7 +140,7 @@ fn reply_of(option: &[u8], allowed: Strengths) -> Reply
 
 // The supported bits of an option; a refused one has none.
 fn supported_bits(option: &[u8]) -> Bits
-    ensures { λ r. ⌜ (r .answer ≡ readNumber (now (option .entry))) × (r .word ≡ supportedBits (now (option .entry))) ⌝ }
+    ensures { λ r. ⌜ (r .answer ≡ readCode (now (option .entry))) × (r .word ≡ supportedBits (now (option .entry))) ⌝ }
 {
     if option.len() != OPTION_LENGTH as usize {
         return refused_bits();

@@ -11,7 +11,7 @@ use Rattle.ccp.specs.declared.Strengths.{Strengths}
 use Rattle.ccp.specs.declared.Reply.{Reply}
 use Rattle.ccp.specs.declared.Reply.the-variants.{CounterOffer, Refused}
 use Rattle.ccp.specs.Option.{modeOf, strengthsOf, wordOf, only}
-use Rattle.ccp.specs.Answers.{readNumber, supportedBits, readAnswer, replyNumber, chosen, replyWith, replyAnswer, replyWord}
+use Rattle.ccp.specs.Answers.{readCode, supportedBits, readAnswer, replyCode, chosen, replyWith, replyAnswer, replyWord}
 use Rattle.mppe.specs.Link.{distance, header}
 use Rattle.sstp.specs.Binding.{lengthOctets}
 
@@ -70,5 +70,5 @@ cases =
 
 -- the claim
 pub marked-cases : AllEqual cases
-unfolding readAnswer readNumber supportedBits modeOf strengthsOf replyAnswer replyNumber chosen replyWith wordOf reduced headOf
+unfolding readAnswer readCode supportedBits modeOf strengthsOf replyAnswer replyCode chosen replyWith wordOf reduced headOf
 marked-cases = (refl, (refl, (refl, (refl, (refl, (refl, (refl, (refl, (refl, (refl, (refl, (refl, (refl, (refl, tt))))))))))))))

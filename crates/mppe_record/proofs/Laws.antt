@@ -10,7 +10,7 @@ use lib.Seq.{take-all}
 use borrow.Author.Tests.{eq-eqb, ne-eqb}
 use Rattle.answer.specs.Answer.{done}
 use Rattle.octets.specs.Octets.{written, writtenAt, bigEndian}
-use Rattle.octets.proofs.Laws.{append-more}
+use Rattle.octets.specs.Laws.{append-more}
 use Rattle.mppe_keys.specs.declared.Strength.{Strength}
 use Rattle.mppe_keys.specs.declared.Strength.the-variants.{Bits40, Bits56, Bits128}
 use Rattle.mppe_keys.specs.Keys.{bitsOf}

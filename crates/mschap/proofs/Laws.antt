@@ -15,7 +15,7 @@ use borrow.Author.Tests.{ltb-false, lt-ltb, le-ltb, eq-eqb, ne-eqb}
 use Rattle.answer.specs.Answer.{done, size, domain, pick, firstOf, onDone, wrong}
 use Rattle.octets.specs.Octets.{written, writtenAt, longestText}
 use Rattle.octets.proofs.Below.{below}
-use Rattle.octets.proofs.Laws.{copy-fits, append-more}
+use Rattle.octets.specs.Laws.{copy-fits, append-more}
 use Rattle.md4.specs.Md4.{md4, md4Answer}
 use Rattle.md4.specs.declared.Digest.{Digest as Md4Digest}
 use Rattle.md4.proofs.Laws.{md4-done}

@@ -10,7 +10,7 @@ use lib.Seq.{take-all, take-append-seam, drop-cons, drop-drop, drop-append-add, 
 use borrow.Author.Tests.{lt-ltb, le-ltb, eq-eqb, ne-eqb}
 use Rattle.answer.specs.Answer.{done, shape, room, size, onDone}
 use Rattle.octets.specs.Octets.{written, writtenAt}
-use Rattle.octets.proofs.Laws.{copy-fits, drop-zeros, append-more}
+use Rattle.octets.specs.Laws.{copy-fits, drop-zeros, append-more}
 use Rattle.mschap_packets.specs.declared.Kind.{Kind}
 use Rattle.mschap_packets.specs.declared.Kind.the-variants as kinds
 use Rattle.mschap_packets.specs.declared.Challenge.{Challenge}

@@ -10,6 +10,7 @@ use lib.ListN.{length, take, drop, getD, set, replicate, length-append, length-d
 use lib.Seq.{length-take-le, drop-cons, take-suc, set-at, take-all, take-at, drop-at, take-length, drop-drop, take-append-seam, drop-append-add}
 use borrow.Author.Tests.{le-leb, lt-leb}
 use borrow.Rule.Slice.PartMut.{putMid}
+use Rattle.octets.specs.Laws.{copy-fits}
 use Rattle.octets.specs.Octets.{bigEndian, written, writtenAt, octetsOf, wordsOf, writtenIfRoom}
 use Rattle.octets.specs.declared.Order.{Order}
 use Rattle.octets.specs.declared.Order.the-variants.{HighestFirst, LowestFirst}
@@ -85,11 +86,6 @@ copy-behind at q out h =
     let none : length out - at ≡ 0 = omega arith in
     rw (none, take-all at out (omega arith), drop-of-length-le out {i = at} (omega arith), append-nil)
 
--- a copy that has room
-pub copy-fits : (at : ℕ) (q out : List ℕ) → at + length q ≤ length out
-    → writtenAt at (take (length out - at) q) out ≡ take at out ++ q ++ drop (at + length q) out
-copy-fits at q out h = rw (take-all (length out - at) q (omega arith), drop-drop, append-assoc)
-
 -- a word is four octets, in either order
 length-octets : (order : Order) (w : ℕ) → length (octetsOf order 4 w) ≡ 4
 length-octets HighestFirst w = refl
@@ -132,23 +128,3 @@ long-high x e h = rw e ((rw e at h) ∙ eight x)
 pub long-low : {order : Order} {out : List ℕ} (x : ℕ) → order ≡ LowestFirst
     → out ≡ writtenIfRoom (wordsOf order (x % 4294967296 ∷ x / 4294967296 ∷ [])) (replicate 8 0) → out ≡ octetsOf order 8 x
 long-low x e h = rw e ((rw e at h) ∙ ap reverse (eight x))
-
--- zeros without the first k
-pub drop-zeros : (k n : ℕ) → drop {A = ℕ} k (replicate n 0) ≡ replicate (n - k) 0
-drop-zeros zero n =
-    let same : n - 0 ≡ n = omega arith in
-    rw same
-drop-zeros (suc k) zero =
-    let none : 0 - suc k ≡ 0 = omega arith in
-    rw none
-drop-zeros (suc k) (suc n) =
-    let less : suc n - suc k ≡ n - k = omega arith in
-    rw less (drop-zeros k n)
-
--- octets copied behind others that stand in front of zeros
-pub append-more : {b b′ : List ℕ} (l q : List ℕ) (at n : ℕ) → b ≡ l ++ replicate n 0 → b′ ≡ writtenAt at (take (length b - at) q) b → at ≡ length l
-    → length q ≤ n → b′ ≡ (l ++ q) ++ replicate (n - length q) 0
-append-more {b} {b′} l q at n e e′ ea h =
-    let lb : length b ≡ length l + n = ap length e ∙ length-append l (replicate n 0) ∙ rw (length-replicate {A = ℕ} n 0) in
-    e′ ∙ copy-fits at q b (omega arith)
-    ∙ rw (e, ea, take-append-seam, drop-append-add l (replicate n 0) (length q), drop-zeros)

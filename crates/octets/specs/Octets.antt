@@ -41,11 +41,11 @@ pairAt i l = fromBigEndian (getD l i 0 ∷ getD l (i + 1) 0 ∷ [])
 
 -- the word of 32 bits whose octets are those at i to i + 3, highest first
 abbrev pub wordBE : List ℕ → ℕ → ℕ
-wordBE b i = getD b i 0 * 2 ^ 24 + getD b (i + 1) 0 * 2 ^ 16 + getD b (i + 2) 0 * 2 ^ 8 + getD b (i + 3) 0
+wordBE b i = fromBigEndian (getD b i 0 ∷ getD b (i + 1) 0 ∷ getD b (i + 2) 0 ∷ getD b (i + 3) 0 ∷ [])
 
 -- the word of 32 bits whose octets are those at i to i + 3, lowest first
 abbrev pub wordLE : List ℕ → ℕ → ℕ
-wordLE b i = getD b (i + 3) 0 * 2 ^ 24 + getD b (i + 2) 0 * 2 ^ 16 + getD b (i + 1) 0 * 2 ^ 8 + getD b i 0
+wordLE b i = fromBigEndian (getD b (i + 3) 0 ∷ getD b (i + 2) 0 ∷ getD b (i + 1) 0 ∷ getD b i 0 ∷ [])
 
 -- a lent buffer with a result in front, and the rest as it was
 abbrev pub written : List ℕ → List ℕ → List ℕ

@@ -1,8 +1,9 @@
 // Words of 32 bits and octets: sums and rotations of words, words as octets and back, copying.
 ghost use mathlib.Core.Path.{_≡_};
-ghost use Prim.Native.Nat.{_+_, _-_, _*_, _^_, min};
+ghost use mathlib.Core.List.{[], _∷_};
+ghost use Prim.Native.Nat.{_-_, min};
 ghost use lib.ListN.{length, take};
-ghost use Rattle.octets.specs.Octets.{octetsOf, wordsOf, written, writtenAt, writtenIfRoom};
+ghost use Rattle.octets.specs.Octets.{octetsOf, fromBigEndian, wordsOf, written, writtenAt, writtenIfRoom};
 ghost use Rattle.octets.specs.Words.{_⊞_, rotl as rotatedLeft, rotr as rotatedRight};
 
 // The longest text of a digest, an HMAC or RC4, and the longest key of an HMAC (01, "Lengths").
@@ -45,14 +46,14 @@ pub fn rotr(x: u32, n: u32) -> u32
 
 // The word of four octets, the highest first.
 pub fn word(a: u8, b: u8, c: u8, d: u8) -> u32
-    ensures { λ r. ⌜ r ≡ a * 2 ^ 24 + b * 2 ^ 16 + c * 2 ^ 8 + d ⌝ }
+    ensures { λ r. ⌜ r ≡ fromBigEndian (a ∷ b ∷ c ∷ d ∷ []) ⌝ }
 {
     wide(a) * 16777216 + wide(b) * 65536 + wide(c) * 256 + wide(d)
 }
 
 // The number of two octets, the highest first.
 pub fn pair(high: u8, low: u8) -> u16
-    ensures { λ r. ⌜ r ≡ high * 256 + low ⌝ }
+    ensures { λ r. ⌜ r ≡ fromBigEndian (high ∷ low ∷ []) ⌝ }
 {
     high as u16 * 256 + low as u16
 }

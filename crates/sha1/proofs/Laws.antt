@@ -3,12 +3,13 @@ use mathlib.Core.Path.{refl, _≡_}
 use mathlib.Core.List.{List}
 use Prim.Native.Nat.{ℕ, _*_, _-_, _≤_, _<_}
 use native.Mathlib.Omega.{arith}
-use lib.ListN.{length, take}
+use lib.ListN.{length, take, replicate}
 use lib.Seq.{getD-take}
 use borrow.Author.Tests.{lt-ltb, le-ltb}
-use Rattle.answer.specs.Answer.{done}
+use Rattle.answer.specs.Answer.{done, size}
 use Rattle.octets.specs.Octets.{wordBE, longestText}
-use Rattle.sha1.specs.Sha1.{lateWord, nextWord, round, added, compress, initial, octetsIn, sha1, refusal, sha1Answer}
+use Rattle.sha1.specs.Sha1.{lateWord, nextWord, round, added, compress, initial, octetsIn, sha1, sha1Answer}
+use Rattle.sha1.specs.Laws.{sha1-done}
 use Rattle.octets.specs.declared.Order.the-variants.{HighestFirst}
 use Rattle.blocks.specs.Blocks.{schedule, rounds, hashed}
 use Rattle.blocks.proofs.Laws.{rounds-add}
@@ -36,17 +37,8 @@ block-done h block ew e₁ e₂ e₃ e₄ er =
     let f : ℕ → State → State = round (schedule (nextWord block) 80) in
     rw (er, e₄, e₃, e₂, e₁, ew, rounds-add f 0 20 20 h, rounds-add f 0 40 20 h, rounds-add f 0 60 20 h)
 
--- what callers cite: a text within the limit is answered with its digest, of 20 octets
-pub sha1-done : (m : List ℕ) → length m ≤ longestText → sha1Answer m ≡ record { answer = done; octets = sha1 m }
-unfolding sha1Answer
-sha1-done m h = rw (le-ltb longestText (length m) h)
-
-pub length-sha1 : (m : List ℕ) → length (sha1 m) ≡ 20
-unfolding sha1
-length-sha1 m = refl
-
 -- the two ways out of the call
-pub too-long : (m : List ℕ) → longestText < length m → refusal ≡ sha1Answer m
+pub too-long : (m : List ℕ) → longestText < length m → record { answer = size; octets = replicate 20 0 } ≡ sha1Answer m
 unfolding sha1Answer
 too-long m h = rw (lt-ltb longestText (length m) h)
 

@@ -4,7 +4,7 @@ use Prim.Native.Nat.{ℕ, _*_, _-_}
 use lib.Bits.{bitAnd, bitXor}
 use lib.Dec.{ltb}
 use lib.ListN.{length, getD, replicate}
-use Rattle.answer.specs.Answer.{done, size, pick, firstOf, onDone}
+use Rattle.answer.specs.Answer.{size, pick, firstOf, onDone}
 use Rattle.octets.specs.declared.Order.the-variants.{HighestFirst}
 use Rattle.octets.specs.Octets.{wordBE, wordsOf, longestText}
 use Rattle.octets.specs.Words.{_⊞_, rotl, complement}
@@ -65,13 +65,10 @@ octetsIn h = wordsOf HighestFirst (h .a ∷ h .b ∷ h .c ∷ h .d ∷ h .e ∷ 
 unfoldable pub sha1 : List ℕ → List ℕ
 sha1 m = octetsIn (hashed compress HighestFirst initial m)
 
--- what a longer text is answered: 3 and zeros
-abbrev pub refusal : Digest
-refusal = record { answer = size; octets = replicate 20 0 }
-
--- what the call answers
+-- the number that the call answers
 abbrev pub sha1Code : List ℕ → ℕ
 sha1Code m = firstOf ((size, ltb longestText (length m)) ∷ [])
 
+-- the answer to a text of any length; a refused one has zeros
 unfoldable pub sha1Answer : List ℕ → Digest
-sha1Answer m = onDone (sha1Code m) (record { answer = done; octets = sha1 m }) refusal
+sha1Answer m = record { answer = sha1Code m; octets = onDone (sha1Code m) (sha1 m) (replicate 20 0) }

@@ -12,7 +12,7 @@ use Rattle.octets.specs.Octets.{written, longestText}
 use Rattle.octets.specs.declared.Order.the-variants.{HighestFirst}
 use Rattle.blocks.specs.Blocks.{closed}
 use Rattle.blocks.proofs.Laws.{hashed-behind-one}
-use Rattle.octets.proofs.Laws.{drop-zeros}
+use Rattle.octets.specs.Laws.{drop-zeros}
 use Rattle.sha256.specs.Sha256.{compress, initial, octetsIn, sha256, refusal}
 use Rattle.sha256.specs.Hmac.{keyBlock, padded, ipad, opad, hmac, hmacAnswer}
 use Rattle.sha256.specs.declared.State.{State}

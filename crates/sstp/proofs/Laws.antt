@@ -7,7 +7,7 @@ use lib.ListN.{length, take, replicate, length-append, length-take, length-repli
 use lib.Seq.{take-all}
 use borrow.Author.Tests.{lt-ltb, le-ltb, eq-eqb, ne-eqb}
 use Rattle.octets.specs.Octets.{written, writtenAt, longestText}
-use Rattle.octets.proofs.Laws.{drop-zeros, append-more}
+use Rattle.octets.specs.Laws.{drop-zeros, append-more}
 use Rattle.sha256.specs.declared.Digest.{Digest}
 use Rattle.sha256.specs.Hmac.{hmacAnswer}
 use Rattle.mppe_keys.specs.declared.Role.{Role}

@@ -1,7 +1,7 @@
 use mathlib.Core.Path.{_∙_}
 use denote.Ref.{now}
 use borrow.Author.Needs.{needs}
-use Rattle.octets.proofs.Laws.{copy-fits}
+use Rattle.octets.specs.Laws.{copy-fits}
 use Rattle.mppe_keys.proofs.put.Statement.{statement}
 use Rattle.mppe_keys.proofs.put.Tie as tie
 

@@ -1,0 +1,62 @@
+-- What callers need of octets: a number and its octets, a copy that has room, texts put together in a local buffer.
+use mathlib.Core.Path.{_≡_, refl, sym, ap, _∙_}
+use mathlib.Core.List.{List, [], _∷_, _++_, append-assoc}
+use Prim.Native.Nat.{ℕ, zero, suc, _+_, _*_, _-_, _/_, _%_, _^_, _<_, _≤_}
+use native.Mathlib.Nat.{pow-suc, pow-zero, mod-one, mul-comm, mul-assoc, add-mul, add-assoc}
+use native.Mathlib.Omega.{arith}
+use lib.Arith.{mod-mul}
+use lib.ListN.{length, take, drop, replicate, length-append, length-replicate}
+use lib.Seq.{length-take-le, take-all, drop-drop, take-append-seam, drop-append-add}
+use Rattle.octets.specs.Octets.{bigEndian, joined, fromBigEndian, writtenAt}
+
+-- the octets of a number, and the number back from them
+pub bigEndian-length : (k n : ℕ) → length (bigEndian k n) ≡ k
+bigEndian-length zero n = refl
+bigEndian-length (suc k) n = ap suc (bigEndian-length k n)
+
+positive : (k : ℕ) → 0 < 256 ^ k
+positive zero = omega arith
+positive (suc k) = let h = positive k in rw (pow-suc 256 k) (omega arith)
+
+joined-back : (a k n : ℕ) → joined a (bigEndian k n) ≡ a * 256 ^ k + n % 256 ^ k
+joined-back a zero n = rw (pow-zero, mod-one) (omega arith)
+joined-back a (suc k) n =
+    joined-back (a * 256 + n / 256 ^ k % 256) k n
+    ∙ rw
+    (pow-suc 256 k, mul-comm (256 ^ k) 256, mod-mul n {m = 256} (omega arith) (positive k), add-mul (a * 256) (n / 256 ^ k % 256) (256 ^ k), mul-assoc a 256 (256 ^ k), add-assoc)
+
+pub joined-none : (l : List ℕ) → joined 0 l ≡ fromBigEndian l
+joined-none [] = refl
+joined-none (x ∷ xs) = ap (λ (n : ℕ). joined n xs) (omega arith)
+
+pub bigEndian-back : (k n : ℕ) → fromBigEndian (bigEndian k n) ≡ n % 256 ^ k
+bigEndian-back k n = sym (joined-none (bigEndian k n)) ∙ joined-back 0 k n ∙ omega arith
+
+-- as many octets as are taken
+pub count : (n : ℕ) (l : List ℕ) → n ≤ length l → n ≡ length (take n l)
+count n l h = sym (length-take-le n l h)
+
+-- a copy that has room
+pub copy-fits : (at : ℕ) (q out : List ℕ) → at + length q ≤ length out
+    → writtenAt at (take (length out - at) q) out ≡ take at out ++ q ++ drop (at + length q) out
+copy-fits at q out h = rw (take-all (length out - at) q (omega arith), drop-drop, append-assoc)
+
+-- zeros without the first k
+pub drop-zeros : (k n : ℕ) → drop {A = ℕ} k (replicate n 0) ≡ replicate (n - k) 0
+drop-zeros zero n =
+    let same : n - 0 ≡ n = omega arith in
+    rw same
+drop-zeros (suc k) zero =
+    let none : 0 - suc k ≡ 0 = omega arith in
+    rw none
+drop-zeros (suc k) (suc n) =
+    let less : suc n - suc k ≡ n - k = omega arith in
+    rw less (drop-zeros k n)
+
+-- octets copied behind others that stand in front of zeros
+pub append-more : {b b′ : List ℕ} (l q : List ℕ) (at n : ℕ) → b ≡ l ++ replicate n 0 → b′ ≡ writtenAt at (take (length b - at) q) b → at ≡ length l
+    → length q ≤ n → b′ ≡ (l ++ q) ++ replicate (n - length q) 0
+append-more {b} {b′} l q at n e e′ ea h =
+    let lb : length b ≡ length l + n = ap length e ∙ length-append l (replicate n 0) ∙ rw (length-replicate {A = ℕ} n 0) in
+    e′ ∙ copy-fits at q b (omega arith)
+    ∙ rw (e, ea, take-append-seam, drop-append-add l (replicate n 0) (length q), drop-zeros)
