@@ -2,7 +2,9 @@ use mathlib.Core.Path.{_≡_, _∙_}
 use native.Mathlib.Omega.{arith}
 use lib.ListN.{length}
 use borrow.Author.Needs.{needs}
-use Rattle.mschap.specs.Answers.{checkAnswer, authenticatorStringAnswer, checkAuthenticatorAnswer}
+use Rattle.answer.specs.Answer.{firstOf}
+use Rattle.mschap.specs.Mschap.{authenticatorString}
+use Rattle.mschap.specs.Answers.{stringRows, checkAnswer, authenticatorStringAnswer, checkAuthenticatorAnswer}
 use Rattle.mschap.proofs.Laws.{not-size, row-wrong, behind, string-told, string-checked, refused, check-of}
 use Rattle.mschap.proofs.check_authenticator.Statement.{statement}
 use Rattle.mschap.proofs.check_authenticator.Tie as tie
@@ -36,8 +38,11 @@ returns-2 c =
     let own = tested .before .before in
     let first = own .before in
     let s = start (first .before) .args in
-    c .refused-check2 .ensures ∙ refused check-of _ _ _ (behind 42 (s .received .now) _ (first .if1 .left) (string-told _ _ (own .authenticator-string .ensures) .0))
-    (tested .if2 .taken)
+    let told =
+    string-told (firstOf (stringRows (s .password .now) (s .response .now) (s .peer .now) (s .authenticator .now) (s .name .now)))
+    (authenticatorString (s .password .now) (s .response .now) (s .peer .now) (s .authenticator .now) (s .name .now))
+    (own .authenticator-string .ensures) in
+    c .refused-check2 .ensures ∙ refused check-of _ _ _ (behind 42 (s .received .now) _ (first .if1 .left) (told .0)) (tested .if2 .taken)
 
 slice-aggregate-same : tie.Need-slice-aggregate-same
 slice-aggregate-same c = search needs

@@ -2,7 +2,9 @@ use mathlib.Core.Path.{_≡_, _∙_}
 use native.Mathlib.Omega.{arith}
 use lib.ListN.{length}
 use borrow.Author.Needs.{needs}
-use Rattle.mschap.specs.Answers.{checkAnswer, ntResponseAnswer, checkResponseAnswer}
+use Rattle.answer.specs.Answer.{firstOf}
+use Rattle.mschap.specs.Mschap.{ntResponse}
+use Rattle.mschap.specs.Answers.{responseRows, checkAnswer, ntResponseAnswer, checkResponseAnswer}
 use Rattle.mschap.proofs.Laws.{not-size, row-wrong, behind, response-told, response-checked, refused, check-of}
 use Rattle.mschap.proofs.check_response.Statement.{statement}
 use Rattle.mschap.proofs.check_response.Tie as tie
@@ -36,8 +38,11 @@ returns-2 c =
     let own = tested .before .before in
     let first = own .before in
     let s = start (first .before) .args in
-    c .refused-check2 .ensures ∙ refused check-of _ _ _ (behind 24 (s .received .now) _ (first .if1 .left) (response-told _ _ (own .nt-response .ensures) .0))
-    (tested .if2 .taken)
+    let told =
+    response-told (firstOf (responseRows (s .authenticator .now) (s .peer .now) (s .name .now) (s .password .now)))
+    (ntResponse (s .authenticator .now) (s .peer .now) (s .name .now) (s .password .now))
+    (own .nt-response .ensures) in
+    c .refused-check2 .ensures ∙ refused check-of _ _ _ (behind 24 (s .received .now) _ (first .if1 .left) (told .0)) (tested .if2 .taken)
 
 slice-aggregate-same : tie.Need-slice-aggregate-same
 slice-aggregate-same c = search needs
