@@ -1,5 +1,5 @@
 -- Laws of the table: which number a call answers, what its number says of the rows, and what an answer then holds.
-use mathlib.Core.Path.{_≡_, refl}
+use mathlib.Core.Path.{_≡_, refl, sym, ap, _∙_}
 use mathlib.Core.Bool.{Bool, true, false, not, true≢false, false≢true}
 use mathlib.Core.List.{List, [], _∷_, _++_}
 use Prim.Native.Nat.{ℕ, zero, suc, _<_, _≤_}
@@ -7,7 +7,7 @@ use native.Mathlib.Nat.{suc-ne-zero}
 use lib.Dec.{eqb, ltb}
 use lib.ListN.{length}
 use borrow.Author.Tests.{lt-ltb, le-ltb, ltb-false, eq-eqb, ne-eqb, eqb-true}
-use Rattle.answer.specs.Answer.{done, pick, outside, wrong, firstOf, onDone}
+use Rattle.answer.specs.Answer.{done, size, pick, outside, wrong, firstOf, onDone}
 
 -- a row that applies gives its number, and one that does not leaves it to those behind it
 pub stops : (t : Bool) (n rest : ℕ) → t ≡ true → n ≡ pick t n rest
@@ -88,3 +88,29 @@ right-length n input e = eqb-true (length input) n (go (eqb (length input) n) e)
     go : (t : Bool) → not t ≡ false → t ≡ true
     go true e = refl
     go false e = absurd (true≢false e)
+
+-- its row
+pub row-wrong : (n : ℕ) (input : List ℕ) (rest : ℕ) → (length input ≡ n → ⊥) → size ≡ pick (wrong n input) size rest
+row-wrong n input rest h = stops (wrong n input) size rest (not-right n input h)
+
+pub row-right : {code : ℕ} (n : ℕ) (input : List ℕ) (rest : ℕ) → length input ≡ n → code ≡ rest → code ≡ pick (wrong n input) size rest
+row-right n input rest h e = passes (wrong n input) size rest (right n input h) e
+
+pub not-size : size ≡ done → ⊥
+not-size e = suc-ne-zero 2 e
+
+-- the ways out of a call that answers a number and a result: a refusal, and one that is done
+pub refused : {A B : Type 0} {n : ℕ} (make : ℕ → B → A) (code : ℕ) (result zeros : B) → n ≡ code → (n ≡ done → ⊥)
+    → make n zeros ≡ make code (onDone code result zeros)
+refused make code result zeros e h = rw (e, not-done code result zeros (λ z. h (e ∙ z)))
+
+pub answered : {A B : Type 0} {o : B} (make : ℕ → B → A) (code : ℕ) (result zeros : B) → code ≡ done → o ≡ result
+    → make done o ≡ make code (onDone code result zeros)
+answered make code result zeros e eo = rw (e, eo)
+
+-- what a caller learns from its answer
+pub told : {A B : Type 0} {x : A} (answer-of : A → ℕ) (result-of : A → B) (y : A) (code : ℕ) (result zeros : B) → x ≡ y → answer-of y ≡ code
+    → result-of y ≡ onDone code result zeros → (answer-of x ≡ code) × (answer-of x ≡ done → result-of x ≡ result)
+told answer-of result-of y code result zeros e en er =
+    let n = ap answer-of e ∙ en in
+    (n, λ z. ap result-of e ∙ er ∙ rw (sym n ∙ z))

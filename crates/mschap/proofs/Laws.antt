@@ -13,15 +13,16 @@ use lib.ListN.{length, take, drop, replicate, getD, length-append, length-drop, 
 use lib.Seq.{drop-cons, drop-drop, take-all, take-at, take-suc, take-append-seam, drop-append-add, length-take-le}
 use borrow.Author.Tests.{ltb-false, lt-ltb, le-ltb, eq-eqb, ne-eqb}
 use Rattle.answer.specs.Answer.{done, size, domain, pick, firstOf, onDone, wrong}
+use Rattle.answer.specs.Laws.{clear, rows-pass, rows-stop, told}
 use Rattle.octets.specs.Octets.{written, writtenAt, longestText}
 use Rattle.octets.proofs.Below.{below}
-use Rattle.octets.specs.Laws.{copy-fits, append-more}
+use Rattle.octets.specs.Laws.{grown, append-more}
 use Rattle.md4.specs.Md4.{md4, md4Answer}
 use Rattle.md4.specs.declared.Digest.{Digest as Md4Digest}
 use Rattle.md4.proofs.Laws.{md4-done}
 use Rattle.sha1.specs.Sha1.{sha1, sha1Answer}
 use Rattle.sha1.specs.declared.Digest.{Digest as Sha1Digest}
-use Rattle.sha1.proofs.Laws.{sha1-done}
+use Rattle.sha1.specs.Laws.{sha1-done}
 use Rattle.des.specs.Des.{encrypted, encryptAnswer}
 use Rattle.des.specs.declared.Block.{Block}
 use Rattle.des.proofs.Answered.{encrypt-done, length-encrypted}
@@ -87,13 +88,6 @@ compared a b d i e ha hb = difference d (getD a i 0) (getD b i 0) ∙ rw (e, add
 
 pub compared-all : (a b : List ℕ) (d i n : ℕ) → eqb d 0 ≡ equal (take i a) (take i b) → i ≡ n → eqb d 0 ≡ equal (take n a) (take n b)
 compared-all a b d i n e ei = rw (← ei) e
-
--- one text more behind those that a buffer begins with
-grown : {t t′ : List ℕ} (l rest x : List ℕ) (at : ℕ) → t ≡ l ++ rest → t′ ≡ writtenAt at (take (length t - at) x) t → length l ≡ at
-    → length x ≤ length rest → t′ ≡ (l ++ x) ++ drop (length x) rest
-grown {t} l rest x at e e′ h hx =
-    let size : length t ≡ length l + length rest = ap length e ∙ length-append l rest in
-    e′ ∙ copy-fits at x t (omega arith) ∙ rw (e, ← h, take-append-seam l rest, drop-append-add l rest (length x), append-assoc)
 
 pub joined : {t₁ t₂ t₃ : List ℕ} (a b c t : List ℕ) → t₁ ≡ writtenAt 0 (take (length t - 0) a) t
     → t₂ ≡ writtenAt (length a) (take (length t₁ - length a) b) t₁
@@ -195,32 +189,12 @@ pub signed : {hh digest last r : List ℕ} (hash response challenge m₁ m₂ : 
 unfolding signature hashHash
 signed hash response challenge m₁ m₂ eh ed el er e₁ e₂ = rw (er, el, ed, eh, e₁, e₂)
 
--- a size is not 0
-pub not-size : size ≡ 0 → ⊥
-not-size e = absurd (omega arith)
-
--- the code of a row that applies, and one behind a row that does not
-pub row-wrong : (n : ℕ) (input : List ℕ) (rest : ℕ) → (length input ≡ n → ⊥) → size ≡ pick (wrong n input) size rest
-row-wrong n input rest h = rw (ne-eqb (length input) n h)
-
-pub behind : {code : ℕ} (n : ℕ) (input : List ℕ) (rest : ℕ) → length input ≡ n → code ≡ rest → code ≡ pick (wrong n input) size rest
-behind n input rest h e = e ∙ rw (eq-eqb (length input) n h)
-
 pub password-long : (password : List ℕ) → longestPassword < length password → size ≡ firstOf (passwordRows password)
 password-long password h = rw (lt-ltb longestPassword (length password) h)
 
 pub password-odd : (password : List ℕ) → length password ≤ longestPassword → (length password % 2 ≡ 0 → ⊥)
     → size ≡ firstOf (passwordRows password)
 password-odd password h e = rw (le-ltb longestPassword (length password) h, ne-eqb (length password % 2) 0 e)
-
--- the front of a list is as long as asked
-pub count : (n : ℕ) (l : List ℕ) → n ≤ length l → n ≡ length (take n l)
-count n l h = sym (length-take-le n l h)
-
--- what is not 0 is a refusal
-not-done : {A : Type 0} (code : ℕ) (result refused : A) → (code ≡ 0 → ⊥) → onDone code result refused ≡ refused
-not-done zero result refused h = absurd (h refl)
-not-done (suc n) result refused h = refl
 
 -- an answer of a code and a result
 abbrev pub hash-of : ℕ → List ℕ → Hash
@@ -237,22 +211,6 @@ string-of n o = record { answer = n; octets = o }
 
 abbrev pub check-of : ℕ → Bool → Checked
 check-of n t = record { answer = n; yes = t }
-
--- the ways out of a call: a refusal, and a result
-pub refused : {A B : Type 0} {n : ℕ} (make : ℕ → B → A) (code : ℕ) (result zeros : B) → n ≡ code → (n ≡ 0 → ⊥)
-    → make n zeros ≡ make code (onDone code result zeros)
-refused make code result zeros e h = rw (e, not-done code result zeros (λ z. h (e ∙ z)))
-
-pub answered : {A B : Type 0} {o : B} (make : ℕ → B → A) (code : ℕ) (result zeros : B) → code ≡ 0 → o ≡ result
-    → make 0 o ≡ make code (onDone code result zeros)
-answered make code result zeros e eo = rw (e, eo)
-
--- what a caller learns from an answer
-told : {A B : Type 0} {x : A} (answer-of : A → ℕ) (result-of : A → B) (y : A) (code : ℕ) (result zeros : B) → x ≡ y → answer-of y ≡ code
-    → result-of y ≡ onDone code result zeros → (answer-of x ≡ code) × (answer-of x ≡ 0 → result-of x ≡ result)
-told answer-of result-of y code result zeros e en er =
-    let n = ap answer-of e ∙ en in
-    (n, λ z. ap result-of e ∙ er ∙ rw (sym n ∙ z))
 
 pub hash-told : {x : Hash} (code : ℕ) (hash : List ℕ) → x ≡ hashAnswer code hash
     → (x .answer ≡ code) × (x .answer ≡ 0 → x .octets ≡ hash)
@@ -289,13 +247,9 @@ pub name-done : {t : Bool} (name : List ℕ) → t ≡ holds backslash name → 
 name-done name et h e = sym (name-fits name h (sym et ∙ e))
 
 -- what is hashed of a name is no longer than a name may be
-pub name-short : {code : ℕ} (name : List ℕ) → code ≡ firstOf (nameRows name) → code ≡ 0 → length (hashedName name) ≤ longestName
+pub name-short : {code : ℕ} (name : List ℕ) → code ≡ firstOf (nameRows name) → code ≡ done → length (hashedName name) ≤ longestName
 unfolding hashedName
-name-short name e z = go (ltb longestName (length name)) refl
-  where
-    go : (t : Bool) → ltb longestName (length name) ≡ t → length name ≤ longestName
-    go true et = absurd (not-size (rw et at (sym e ∙ z)))
-    go false et = ltb-false longestName (length name) et
+name-short name e z = ltb-false longestName (length name) (clear size (nameRows name) refl (sym e ∙ z) .0)
 
 pub challenge-hashed : {user digest o : List ℕ} (peer authenticator name : List ℕ) → user ≡ hashedName name
     → digest ≡ sha1 (peer ++ authenticator ++ user) → o ≡ take 8 digest → o ≡ challengeHash peer authenticator name
@@ -303,24 +257,13 @@ unfolding challengeHash
 challenge-hashed peer authenticator name eu ed eo = rw (eo, ed, eu)
 
 -- a code behind the rows of a password, and that of a password
-pub behind-password : {n m : ℕ} (password : List ℕ) (rows : List (ℕ × Bool)) → m ≡ firstOf (passwordRows password) → m ≡ 0
+pub behind-password : {n m : ℕ} (password : List ℕ) (rows : List (ℕ × Bool)) → m ≡ firstOf (passwordRows password) → m ≡ done
     → n ≡ firstOf rows → n ≡ firstOf (passwordRows password ++ rows)
-behind-password {n} password rows em z e = e ∙ go (ltb longestPassword (length password)) (eqb (length password % 2) 0) (sym em ∙ z)
-  where
-    go : (t u : Bool) → firstOf ((size, t) ∷ (size, not u) ∷ []) ≡ 0 → firstOf rows ≡ firstOf ((size, t) ∷ (size, not u) ∷ rows)
-    go true u f = absurd (not-size f)
-    go false true f = refl
-    go false false f = absurd (not-size f)
+behind-password password rows em z e = e ∙ sym (rows-pass (passwordRows password) rows refl (sym em ∙ z))
 
-pub by-password : {n : ℕ} (password : List ℕ) (rows : List (ℕ × Bool)) → n ≡ firstOf (passwordRows password) → (n ≡ 0 → ⊥)
+pub by-password : {n : ℕ} (password : List ℕ) (rows : List (ℕ × Bool)) → n ≡ firstOf (passwordRows password) → (n ≡ done → ⊥)
     → n ≡ firstOf (passwordRows password ++ rows)
-by-password {n} password rows e z = e ∙ go (ltb longestPassword (length password)) (eqb (length password % 2) 0) (λ f. z (e ∙ f))
-  where
-    go : (t u : Bool) → (firstOf ((size, t) ∷ (size, not u) ∷ []) ≡ 0 → ⊥)
-        → firstOf ((size, t) ∷ (size, not u) ∷ []) ≡ firstOf ((size, t) ∷ (size, not u) ∷ rows)
-    go true u f = refl
-    go false true f = absurd (f refl)
-    go false false f = refl
+by-password password rows e h = e ∙ sym (rows-stop (passwordRows password) rows λ z. h (e ∙ z))
 
 -- the results of the calls that begin with a password
 pub response-made : {hash challenge o : List ℕ} (authenticator peer name password : List ℕ) → hash ≡ passwordHash password

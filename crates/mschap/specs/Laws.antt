@@ -8,9 +8,11 @@ use lib.Dec.{eqb}
 use lib.ListN.{length, take, drop, length-append}
 use lib.Seq.{length-take-le}
 use borrow.Author.Tests.{le-ltb, eq-eqb, eqb-true}
-use Rattle.answer.specs.Answer.{done, size, firstOf, wrong}
+use Rattle.answer.specs.Answer.{done, firstOf}
+use Rattle.answer.specs.Laws.{right}
 use Rattle.md4.specs.Md4.{md4}
 use Rattle.sha1.specs.Sha1.{sha1}
+use Rattle.sha1.specs.Laws.{sha1-length}
 use Rattle.des.specs.Des.{encrypted}
 use Rattle.mschap.specs.declared.Hash.{Hash}
 use Rattle.mschap.specs.declared.ChallengeHash.{ChallengeHash}
@@ -30,10 +32,6 @@ passwordHash-length password = refl
 pub hashHash-length : (hash : List ℕ) → length (hashHash hash) ≡ hashLength
 unfolding hashHash md4
 hashHash-length hash = refl
-
-sha1-length : (text : List ℕ) → length (sha1 text) ≡ 20
-unfolding sha1
-sha1-length text = refl
 
 pub challengeHash-length : (peer authenticator name : List ℕ) → length (challengeHash peer authenticator name) ≡ challengeHashLength
 unfolding challengeHash
@@ -75,9 +73,6 @@ unfolding authenticatorString signature
 authenticatorString-length password response peer authenticator name = encoded-length _ (sha1-length _)
 
 -- rows that do not apply
-pub row-right : (n : ℕ) (input : List ℕ) (rows : List (ℕ × Bool)) → length input ≡ n → firstOf ((size, wrong n input) ∷ rows) ≡ firstOf rows
-row-right n input rows h = rw (eq-eqb (length input) n h)
-
 pub password-fits : (password : List ℕ) (rows : List (ℕ × Bool)) → length password ≤ longestPassword → length password % 2 ≡ 0
     → firstOf (passwordRows password ++ rows) ≡ firstOf rows
 password-fits password rows h e = rw (le-ltb longestPassword (length password) h, eq-eqb (length password % 2) 0 e)
@@ -88,8 +83,7 @@ name-fits name h e = rw (le-ltb longestName (length name) h, e)
 pub challenge-fits : (peer authenticator name : List ℕ) → length peer ≡ challengeLength → length authenticator ≡ challengeLength
     → firstOf (nameRows name) ≡ done → firstOf (challengeRows peer authenticator name) ≡ done
 challenge-fits peer authenticator name hp ha hn =
-    row-right challengeLength peer ((size, wrong challengeLength authenticator) ∷ nameRows name) hp
-    ∙ row-right challengeLength authenticator (nameRows name) ha ∙ hn
+    rw (right challengeLength peer hp, right challengeLength authenticator ha) hn
 
 pub response-fits : (authenticator peer name password : List ℕ) → length password ≤ longestPassword → length password % 2 ≡ 0
     → length peer ≡ challengeLength → length authenticator ≡ challengeLength → firstOf (nameRows name) ≡ done
@@ -106,7 +100,7 @@ passwordHash-done password h e = rw (password-fits password [] h e)
 pub hashHash-done : (hash : List ℕ) → length hash ≡ hashLength
     → _≡_ {A = Hash} (hashHashAnswer hash) (record { answer = done; octets = hashHash hash })
 unfolding hashHashAnswer hashAnswer
-hashHash-done hash h = rw (row-right hashLength hash [] h)
+hashHash-done hash h = rw (right hashLength hash h)
 
 pub challengeHash-done : (peer authenticator name : List ℕ) → length peer ≡ challengeLength → length authenticator ≡ challengeLength
     → firstOf (nameRows name) ≡ done
@@ -120,7 +114,7 @@ pub challengeResponse-done : (challenge hash : List ℕ) → length challenge �
     → _≡_ {A = NtResponse} (challengeResponseAnswer challenge hash) (record { answer = done; octets = challengeResponse challenge hash })
 unfolding challengeResponseAnswer responseAnswer
 challengeResponse-done challenge hash hc hh =
-    rw (row-right challengeHashLength challenge ((size, wrong hashLength hash) ∷ []) hc, row-right hashLength hash [] hh)
+    rw (right challengeHashLength challenge hc, right hashLength hash hh)
 
 pub ntResponse-done : (authenticator peer name password : List ℕ) → firstOf (responseRows authenticator peer name password) ≡ done
     → _≡_ {A = NtResponse}
@@ -136,7 +130,7 @@ pub authenticatorString-done : (password response peer authenticator name : List
     (record { answer = done; octets = authenticatorString password response peer authenticator name })
 unfolding authenticatorStringAnswer stringAnswer
 authenticatorString-done password response peer authenticator name hr h =
-    rw (row-right responseLength response (responseRows authenticator peer name password) hr, h)
+    rw (right responseLength response hr, h)
 
 -- a comparison is a yes for the same octets, and for no others
 pub equal-same : (a : List ℕ) → equal a a ≡ true
@@ -170,7 +164,7 @@ unfolding checkResponseAnswer checkAnswer
 checkResponse-yes authenticator peer name password h =
     let own : List ℕ = ntResponse authenticator peer name password in
     rw (
-      row-right responseLength own (responseRows authenticator peer name password)
+      right responseLength own
           (ntResponse-length authenticator peer name password),
       h,
       equal-same own,
@@ -193,7 +187,7 @@ unfolding checkAuthenticatorAnswer checkAnswer
 checkAuthenticator-yes password response peer authenticator name h =
     let own : List ℕ = authenticatorString password response peer authenticator name in
     rw (
-      row-right stringLength own (stringRows password response peer authenticator name)
+      right stringLength own
           (authenticatorString-length password response peer authenticator name),
       h,
       equal-same own,

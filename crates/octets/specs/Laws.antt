@@ -53,10 +53,15 @@ drop-zeros (suc k) (suc n) =
     let less : suc n - suc k ≡ n - k = omega arith in
     rw less (drop-zeros k n)
 
--- octets copied behind others that stand in front of zeros
+-- octets copied behind others that a buffer begins with, and behind others that stand in front of zeros
+pub grown : {t t′ : List ℕ} (l rest q : List ℕ) (at : ℕ) → t ≡ l ++ rest → t′ ≡ writtenAt at (take (length t - at) q) t → length l ≡ at
+    → length q ≤ length rest → t′ ≡ (l ++ q) ++ drop (length q) rest
+grown {t} l rest q at e e′ h hq =
+    let size : length t ≡ length l + length rest = ap length e ∙ length-append l rest in
+    e′ ∙ copy-fits at q t (omega arith) ∙ rw (e, ← h, take-append-seam l rest, drop-append-add l rest (length q), append-assoc)
+
 pub append-more : {b b′ : List ℕ} (l q : List ℕ) (at n : ℕ) → b ≡ l ++ replicate n 0 → b′ ≡ writtenAt at (take (length b - at) q) b → at ≡ length l
     → length q ≤ n → b′ ≡ (l ++ q) ++ replicate (n - length q) 0
-append-more {b} {b′} l q at n e e′ ea h =
-    let lb : length b ≡ length l + n = ap length e ∙ length-append l (replicate n 0) ∙ rw (length-replicate {A = ℕ} n 0) in
-    e′ ∙ copy-fits at q b (omega arith)
-    ∙ rw (e, ea, take-append-seam, drop-append-add l (replicate n 0) (length q), drop-zeros)
+append-more l q at n e e′ ea h =
+    let long : length (replicate {A = ℕ} n 0) ≡ n = length-replicate n 0 in
+    grown l (replicate n 0) q at e e′ (sym ea) (omega arith) ∙ rw drop-zeros

@@ -1,7 +1,8 @@
 use mathlib.Core.Path.{sym, _∙_}
 use borrow.Author.Needs.{needs}
 use Rattle.mschap.specs.Answers.{stringAnswer, challengeRows, passwordHashAnswer, challengeHashAnswer, authenticatorStringAnswer}
-use Rattle.mschap.proofs.Laws.{not-size, row-wrong, behind, by-password, behind-password, hash-told, challenge-told, string-made, refused, string-of, answered}
+use Rattle.answer.specs.Laws.{not-size, row-wrong, row-right, refused, answered}
+use Rattle.mschap.proofs.Laws.{by-password, behind-password, hash-told, challenge-told, string-made, string-of}
 use Rattle.mschap.proofs.authenticator_string.Statement.{statement}
 use Rattle.mschap.proofs.authenticator_string.Tie as tie
 
@@ -35,7 +36,7 @@ returns-2 c =
     let first = hashed .before in
     let s = start (first .before) .args in
     let n = tested .if2 .taken in
-    c .refused-string2 .ensures ∙ refused string-of _ _ _ (behind 24 (s .response .now) _ (first .if1 .left)
+    c .refused-string2 .ensures ∙ refused string-of _ _ _ (row-right 24 (s .response .now) _ (first .if1 .left)
     (by-password (s .password .now) (challengeRows (s .peer .now) (s .authenticator .now) (s .name .now))
     (hash-told _ _ (hashed .password-hash .ensures) .0) n)) n
 
@@ -54,7 +55,7 @@ returns-3 c =
     let hashed = passed .before .before in
     let first = hashed .before in
     let s = start (first .before) .args in
-    c .refused-string3 .ensures ∙ refused string-of _ _ _ (behind 24 (s .response .now) _ (first .if1 .left)
+    c .refused-string3 .ensures ∙ refused string-of _ _ _ (row-right 24 (s .response .now) _ (first .if1 .left)
     (behind-password (s .password .now) (challengeRows (s .peer .now) (s .authenticator .now) (s .name .now))
     (hash-told _ _ (hashed .password-hash .ensures) .0) (passed .if2 .left)
     (challenge-told _ _ (challenged .challenge-hash .ensures) .0))) (tested .if3 .taken)
@@ -82,7 +83,7 @@ returns-4 c =
     let z′ = tested .if3 .left in
     let h = hash-told _ _ (hashed .password-hash .ensures) in
     let x = challenge-told _ _ (challenged .challenge-hash .ensures) in
-    answered string-of _ _ _ (sym (behind 24 (s .response .now) _ (first .if1 .left)
+    answered string-of _ _ _ (sym (row-right 24 (s .response .now) _ (first .if1 .left)
     (behind-password (s .password .now) (challengeRows (s .peer .now) (s .authenticator .now) (s .name .now)) (h .0) z (x .0))) ∙ z′)
     (string-made _ _ _ _ _ (h .1 z) (x .1 z′) (c .signature .ensures))
 

@@ -3,7 +3,8 @@ use native.Mathlib.Omega.{arith}
 use lib.ListN.{length}
 use borrow.Author.Needs.{needs}
 use Rattle.mschap.specs.Answers.{challengeAnswer, challengeHashAnswer}
-use Rattle.mschap.proofs.Laws.{not-size, row-wrong, behind, name-short, challenge-hashed, refused, challenge-of, answered}
+use Rattle.answer.specs.Laws.{not-size, row-wrong, row-right, refused, answered}
+use Rattle.mschap.proofs.Laws.{name-short, challenge-hashed, challenge-of}
 use Rattle.mschap.proofs.challenge_hash.Statement.{statement}
 use Rattle.mschap.proofs.challenge_hash.Tie as tie
 
@@ -31,7 +32,7 @@ returns-2 c =
     let first = second .before in
     let s = start (first .before) .args in
     c .refused-challenge2 .ensures ∙ refused challenge-of _ _ _
-    (behind 16 (s .peer .now) _ (first .if1 .left) (row-wrong 16 (s .authenticator .now) _ (second .if2 .taken))) not-size
+    (row-right 16 (s .peer .now) _ (first .if1 .left) (row-wrong 16 (s .authenticator .now) _ (second .if2 .taken))) not-size
 
 name-code-requires : tie.Need-name-code-requires
 name-code-requires c κs = search needs
@@ -48,7 +49,7 @@ returns-3 c =
     let first = second .before in
     let s = start (first .before) .args in
     c .refused-challenge3 .ensures ∙ refused challenge-of _ _ _
-    (behind 16 (s .peer .now) _ (first .if1 .left) (behind 16 (s .authenticator .now) _ (second .if2 .left) (named .name-code .ensures)))
+    (row-right 16 (s .peer .now) _ (first .if1 .left) (row-right 16 (s .authenticator .now) _ (second .if2 .left) (named .name-code .ensures)))
     (tested .if3 .taken)
 
 hashed-name-requires : tie.Need-hashed-name-requires
@@ -77,7 +78,7 @@ returns-4 c =
     let second = named .before in
     let first = second .before in
     let s = start (first .before) .args in
-    let code = behind 16 (s .peer .now) _ (first .if1 .left) (behind 16 (s .authenticator .now) _ (second .if2 .left) (named .name-code .ensures)) in
+    let code = row-right 16 (s .peer .now) _ (first .if1 .left) (row-right 16 (s .authenticator .now) _ (second .if2 .left) (named .name-code .ensures)) in
     answered challenge-of _ _ _ (sym code ∙ tested .if3 .left)
     (challenge-hashed _ _ _ (user .hashed-name .ensures) (hashed .sha1-of .ensures) (c .first-eight .ensures))
 

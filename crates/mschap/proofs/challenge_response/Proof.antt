@@ -1,7 +1,8 @@
 use mathlib.Core.Path.{refl, sym, _∙_}
 use borrow.Author.Needs.{needs}
 use Rattle.mschap.specs.Answers.{responseAnswer, challengeResponseAnswer}
-use Rattle.mschap.proofs.Laws.{not-size, row-wrong, behind, refused, response-of, answered}
+use Rattle.answer.specs.Laws.{not-size, row-wrong, row-right, refused, answered}
+use Rattle.mschap.proofs.Laws.{response-of}
 use Rattle.mschap.proofs.challenge_response.Statement.{statement}
 use Rattle.mschap.proofs.challenge_response.Tie as tie
 
@@ -29,7 +30,7 @@ returns-2 c =
     let first = second .before in
     let s = start (first .before) .args in
     c .refused-response2 .ensures ∙ refused response-of _ _ _
-    (behind 8 (s .challenge .now) _ (first .if1 .left) (row-wrong 16 (s .hash .now) _ (second .if2 .taken))) not-size
+    (row-right 8 (s .challenge .now) _ (first .if1 .left) (row-wrong 16 (s .hash .now) _ (second .if2 .taken))) not-size
 
 response-of-requires : tie.Need-response-of-requires
 response-of-requires c κs = search needs
@@ -41,7 +42,7 @@ returns-3 c =
     let first = second .before in
     let s = start (first .before) .args in
     answered response-of _ _ _
-    (sym (behind 8 (s .challenge .now) _ (first .if1 .left) (behind 16 (s .hash .now) _ (second .if2 .left) refl))) (c .response-of .ensures)
+    (sym (row-right 8 (s .challenge .now) _ (first .if1 .left) (row-right 16 (s .hash .now) _ (second .if2 .left) refl))) (c .response-of .ensures)
 
 pub challenge-response-spec : {M : Type 1} → statement M
 challenge-response-spec =

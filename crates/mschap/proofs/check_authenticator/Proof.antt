@@ -5,7 +5,8 @@ use borrow.Author.Needs.{needs}
 use Rattle.answer.specs.Answer.{firstOf}
 use Rattle.mschap.specs.Mschap.{authenticatorString}
 use Rattle.mschap.specs.Answers.{stringRows, checkAnswer, authenticatorStringAnswer, checkAuthenticatorAnswer}
-use Rattle.mschap.proofs.Laws.{not-size, row-wrong, behind, string-told, string-checked, refused, check-of}
+use Rattle.answer.specs.Laws.{not-size, row-wrong, row-right, refused}
+use Rattle.mschap.proofs.Laws.{string-told, string-checked, check-of}
 use Rattle.mschap.proofs.check_authenticator.Statement.{statement}
 use Rattle.mschap.proofs.check_authenticator.Tie as tie
 
@@ -42,7 +43,7 @@ returns-2 c =
     string-told (firstOf (stringRows (s .password .now) (s .response .now) (s .peer .now) (s .authenticator .now) (s .name .now)))
     (authenticatorString (s .password .now) (s .response .now) (s .peer .now) (s .authenticator .now) (s .name .now))
     (own .authenticator-string .ensures) in
-    c .refused-check2 .ensures ∙ refused check-of _ _ _ (behind 42 (s .received .now) _ (first .if1 .left) (told .0)) (tested .if2 .taken)
+    c .refused-check2 .ensures ∙ refused check-of _ _ _ (row-right 42 (s .received .now) _ (first .if1 .left) (told .0)) (tested .if2 .taken)
 
 slice-aggregate-same : tie.Need-slice-aggregate-same
 slice-aggregate-same c = search needs

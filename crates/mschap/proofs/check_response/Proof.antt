@@ -5,7 +5,8 @@ use borrow.Author.Needs.{needs}
 use Rattle.answer.specs.Answer.{firstOf}
 use Rattle.mschap.specs.Mschap.{ntResponse}
 use Rattle.mschap.specs.Answers.{responseRows, checkAnswer, ntResponseAnswer, checkResponseAnswer}
-use Rattle.mschap.proofs.Laws.{not-size, row-wrong, behind, response-told, response-checked, refused, check-of}
+use Rattle.answer.specs.Laws.{not-size, row-wrong, row-right, refused}
+use Rattle.mschap.proofs.Laws.{response-told, response-checked, check-of}
 use Rattle.mschap.proofs.check_response.Statement.{statement}
 use Rattle.mschap.proofs.check_response.Tie as tie
 
@@ -42,7 +43,7 @@ returns-2 c =
     response-told (firstOf (responseRows (s .authenticator .now) (s .peer .now) (s .name .now) (s .password .now)))
     (ntResponse (s .authenticator .now) (s .peer .now) (s .name .now) (s .password .now))
     (own .nt-response .ensures) in
-    c .refused-check2 .ensures ∙ refused check-of _ _ _ (behind 24 (s .received .now) _ (first .if1 .left) (told .0)) (tested .if2 .taken)
+    c .refused-check2 .ensures ∙ refused check-of _ _ _ (row-right 24 (s .received .now) _ (first .if1 .left) (told .0)) (tested .if2 .taken)
 
 slice-aggregate-same : tie.Need-slice-aggregate-same
 slice-aggregate-same c = search needs

@@ -2,7 +2,8 @@ use mathlib.Core.Path.{refl, sym, _∙_}
 use borrow.Author.Needs.{needs}
 use Rattle.mschap.specs.Answers.{hashAnswer, hashHashAnswer}
 use Rattle.mschap.specs.Mschap.{hashHash}
-use Rattle.mschap.proofs.Laws.{not-size, row-wrong, behind, refused, hash-of, answered}
+use Rattle.answer.specs.Laws.{not-size, row-wrong, row-right, refused, answered}
+use Rattle.mschap.proofs.Laws.{hash-of}
 use Rattle.mschap.proofs.hash_hash.Statement.{statement}
 use Rattle.mschap.proofs.hash_hash.Tie as tie
 
@@ -24,7 +25,7 @@ unfolding hashHashAnswer hashHash hashAnswer
 returns-2 c =
     let first = c .before in
     let s = first .before .before .args in
-    answered hash-of _ _ _ (sym (behind 16 (s .hash .now) _ (first .if1 .left) refl)) (c .md4-of .ensures)
+    answered hash-of _ _ _ (sym (row-right 16 (s .hash .now) _ (first .if1 .left) refl)) (c .md4-of .ensures)
 
 pub hash-hash-spec : {M : Type 1} → statement M
 hash-hash-spec = tie.close (tie.spec refused-hash-requires returns md4-of-requires returns-2)

@@ -1,7 +1,8 @@
 use mathlib.Core.Path.{sym, _∙_}
 use borrow.Author.Needs.{needs}
 use Rattle.mschap.specs.Answers.{responseAnswer, challengeRows, passwordHashAnswer, challengeHashAnswer, ntResponseAnswer}
-use Rattle.mschap.proofs.Laws.{by-password, behind-password, hash-told, challenge-told, response-made, refused, response-of, answered}
+use Rattle.answer.specs.Laws.{refused, answered}
+use Rattle.mschap.proofs.Laws.{by-password, behind-password, hash-told, challenge-told, response-made, response-of}
 use Rattle.mschap.proofs.nt_response.Statement.{statement}
 use Rattle.mschap.proofs.nt_response.Tie as tie
 

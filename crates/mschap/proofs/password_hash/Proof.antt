@@ -4,7 +4,8 @@ use borrow.Author.Needs.{needs}
 use Rattle.mschap.specs.Answers.{hashAnswer, passwordHashAnswer}
 use Rattle.mschap.specs.Mschap.{passwordHash}
 use Rattle.mschap.specs.Laws.{password-fits}
-use Rattle.mschap.proofs.Laws.{not-size, password-long, password-odd, refused, hash-of, answered}
+use Rattle.answer.specs.Laws.{not-size, refused, answered}
+use Rattle.mschap.proofs.Laws.{password-long, password-odd, hash-of}
 use Rattle.mschap.proofs.password_hash.Statement.{statement}
 use Rattle.mschap.proofs.password_hash.Tie as tie
 

@@ -1,7 +1,8 @@
 use native.Mathlib.Omega.{arith}
 use lib.Seq.{length-take-le}
 use borrow.Author.Needs.{needs}
-use Rattle.mschap.proofs.Laws.{count, response-joined}
+use Rattle.octets.specs.Laws.{count}
+use Rattle.mschap.proofs.Laws.{response-joined}
 use Rattle.mschap.proofs.response_of.Statement.{statement}
 use Rattle.mschap.proofs.response_of.Tie as tie
 

@@ -1,7 +1,8 @@
 use native.Mathlib.Omega.{arith}
 use lib.ListN.{replicate}
 use borrow.Author.Needs.{needs}
-use Rattle.mschap.proofs.Laws.{count, sha1-octets}
+use Rattle.octets.specs.Laws.{count}
+use Rattle.mschap.proofs.Laws.{sha1-octets}
 use Rattle.mschap.proofs.sha1_of.Statement.{statement}
 use Rattle.mschap.proofs.sha1_of.Tie as tie
 
