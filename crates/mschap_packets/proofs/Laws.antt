@@ -9,6 +9,7 @@ use lib.ListN.{length, take, drop, getD, replicate, length-append, length-drop, 
 use lib.Seq.{take-all, take-append-seam, drop-cons, drop-drop, drop-append-add, length-take-le}
 use borrow.Author.Tests.{lt-ltb, le-ltb, eq-eqb, ne-eqb}
 use Rattle.answer.specs.Answer.{done, shape, room, size, onDone}
+use Rattle.answer.specs.Laws.{not-done}
 use Rattle.octets.specs.Octets.{written, writtenAt}
 use Rattle.octets.specs.Laws.{copy-fits, drop-zeros, append-more}
 use Rattle.mschap_packets.specs.declared.Kind.{Kind}
@@ -88,16 +89,11 @@ pub read-reserved : {t : Bool} (kind : Kind) (packet : List ℕ) → t ≡ anySe
 unfolding readCode
 read-reserved kind packet e h = simp (sym e ∙ h, earlier)
 
--- a refusal, and a result
-on-refused : {A : Type 0} (n : ℕ) (result refused : A) → (n ≡ done → ⊥) → onDone n result refused ≡ refused
-on-refused zero result refused h = absurd (h refl)
-on-refused (suc n) result refused h = refl
-
 -- what is read of a Challenge
 pub challenge-refused : {code : ℕ} (packet : List ℕ) → code ≡ readCode kinds.Challenge packet → (code ≡ done → ⊥)
     → _≡_ {A = Challenge} (record { answer = code; identifier = 0; value = replicate 16 0 }) (challengeRead packet)
 unfolding challengeRead
-challenge-refused packet e h = rw e (sym (on-refused _ _ _ (λ z. h (e ∙ z))))
+challenge-refused packet e h = rw e (sym (not-done _ _ _ (λ z. h (e ∙ z))))
 
 pub challenge-done : {code : ℕ} {value : List ℕ} (packet : List ℕ) → code ≡ readCode kinds.Challenge packet → code ≡ done
     → value ≡ part 5 16 packet
@@ -111,7 +107,7 @@ pub response-refused : {code : ℕ} (packet : List ℕ) → code ≡ readCode ki
     (record { answer = code; identifier = 0; «peer_challenge» = replicate 16 0; «nt_response» = replicate 24 0 })
     (responseRead packet)
 unfolding responseRead
-response-refused packet e h = rw e (sym (on-refused _ _ _ (λ z. h (e ∙ z))))
+response-refused packet e h = rw e (sym (not-done _ _ _ (λ z. h (e ∙ z))))
 
 pub response-done : {code : ℕ} {peer response : List ℕ} (packet : List ℕ) → code ≡ readCode kinds.Response packet → code ≡ done
     → peer ≡ part 5 16 packet → response ≡ part 29 24 packet
@@ -126,8 +122,8 @@ pub name-refused : {code : ℕ} (kind : Kind) (packet : List ℕ) (place : ℕ �
     → ([] ≡ nameOf kind packet) × (place ≡ onward (nameAt kind packet) place)
 unfolding nameOf nameAt
 name-refused kind packet place e h =
-    let front : 0 ≡ nameAt kind packet = sym (on-refused _ _ _ (λ z. h (e ∙ z))) in
-    (sym (on-refused _ _ _ (λ z. h (e ∙ z))), ap (λ (n : ℕ). (place .0, n)) (omega arith))
+    let front : 0 ≡ nameAt kind packet = sym (not-done _ _ _ (λ z. h (e ∙ z))) in
+    (sym (not-done _ _ _ (λ z. h (e ∙ z))), ap (λ (n : ℕ). (place .0, n)) (omega arith))
 
 pub name-done : {code start end : ℕ} (kind : Kind) (packet : List ℕ) (place : ℕ × ℕ) → code ≡ readCode kind packet → code ≡ done
     → start ≡ leastLength kind → end ≡ lengthField packet

@@ -12,6 +12,7 @@ use lib.ListN.{length, take, drop, getD, replicate, length-append, length-drop}
 use lib.Seq.{take-at, take-add, take-suc, take-append-le, take-append-seam, drop-at, drop-drop, drop-append-le, getD-take, length-take-le}
 use borrow.Author.Tests.{ltb-false, lt-ltb, eqb-true, not-false, le-ltb, eq-eqb}
 use Rattle.answer.specs.Answer.{done, shape, size, pick, firstOf, onDone, wrong}
+use Rattle.answer.specs.Laws.{clear}
 use Rattle.octets.specs.Octets.{written}
 use Rattle.mschap_packets.specs.declared.Kind.{Kind}
 use Rattle.mschap_packets.specs.declared.Kind.the-variants as kinds
@@ -36,7 +37,7 @@ pub record Shaped (kind : Kind) (packet : List ℕ) : Type 0 where
   pub size : getD packet 4 0 ≡ valueSize kind
   pub least : leastLength kind ≤ lengthField packet
   pub inside : lengthField packet ≤ length packet
-  pub clear : anySet (reserved kind packet) ≡ false
+  pub unset : anySet (reserved kind packet) ≡ false
 
 -- its name is too long, or not
 pub read-name : {least n : ℕ} {t : Bool} (kind : Kind) (packet : List ℕ) → Shaped kind packet → least ≡ leastLength kind
@@ -48,20 +49,9 @@ read-name kind packet shaped el en ht =
     let size = eq-eqb (getD packet 4 0) (valueSize kind) (shaped .size) in
     let least = le-ltb (lengthField packet) (leastLength kind) (shaped .least) in
     let inside = le-ltb (length packet) (lengthField packet) (shaped .inside) in
-    rw (long, code, size, least, inside, shaped .clear, ← en, ← el, ht)
+    rw (long, code, size, least, inside, shaped .unset, ← en, ← el, ht)
 
--- where the code is 0, no row of another code applies
-abbrev NoneOf : List (ℕ × Bool) → Type 0
-NoneOf [] = Unit {0}
-NoneOf ((zero, t) ∷ rows) = Unit {0}
-NoneOf ((suc n, t) ∷ rows) = (t ≡ false) × NoneOf rows
-
-none-of : (rows : List (ℕ × Bool)) → firstOf rows ≡ done → NoneOf rows
-none-of [] h = tt
-none-of ((zero, t) ∷ rows) h = tt
-none-of ((suc n, true) ∷ rows) h = absurd (suc-ne-zero n h)
-none-of ((suc n, false) ∷ rows) h = (refl, none-of rows h)
-
+-- both tests fail
 neither : (a b : Bool) → a || b ≡ false → (a ≡ false) × (b ≡ false)
 neither true b h = (h, cc)
 neither false b h = (refl, h)
@@ -71,19 +61,18 @@ pub read-done : (kind : Kind) (packet : List ℕ) → readCode kind packet ≡ d
     → Shaped kind packet × (lengthField packet - leastLength kind ≤ longestName)
 unfolding readCode
 read-done kind packet h =
-    let coded = none-of (readRows kind packet) h .1 in
+    let coded = clear shape (readRows kind packet) refl h .1 in
     let sized = coded .1 in
     let least = sized .1 in
-    let inside = least .1 in
-    let clear = inside .1 in (
+    let inside = least .1 in (
       record {
         code = eqb-true _ _ (not-false _ (coded .0));
         size = eqb-true _ _ (not-false _ (sized .0));
         least = ltb-false _ _ (least .0);
         inside = ltb-false _ _ (inside .0);
-        clear = clear .0;
+        unset = inside .1 .0;
       },
-      ltb-false _ _ (clear .1 .0),
+      ltb-false _ _ (clear size (readRows kind packet) refl h .0),
     )
 
 -- how long a packet is
@@ -129,7 +118,7 @@ module _ (kind : Kind) (identifier : ℕ) (value name rest packet : List ℕ) (e
       let n = length-named in
       let f = fixed-fields in
       let short = le-ltb longestName (lengthField packet - leastLength kind) (omega arith) in
-      let shaped : Shaped kind packet = record { code = f .0; size = f .2; least = omega arith; inside = omega arith; clear = hr } in
+      let shaped : Shaped kind packet = record { code = f .0; size = f .2; least = omega arith; inside = omega arith; unset = hr } in
       sym (read-name kind packet shaped refl refl short)
 
   -- .. and so is its name
@@ -145,7 +134,7 @@ written-done : (t : Bool) (packet name out : List ℕ) → writeCode t packet na
     → (t ≡ false) × (length name ≤ longestName) × (writeOut t packet name out ≡ packet ++ drop (length packet) out)
 unfolding writeCode writeOut
 written-done t packet name out h =
-    let rows = none-of (writeRows t packet name out) h in
+    let rows = clear size (writeRows t packet name out) refl h in
     (rows .0, ltb-false _ _ (rows .1 .0), rw h)
 
 -- a Challenge that a call wrote reads back to the same fields and name, whatever the buffer holds behind it
@@ -234,7 +223,7 @@ value-again : (packet : List ℕ) → Shaped kinds.Response packet
 unfolding responseValue
 value-again packet shaped =
     let long : 54 ≤ length packet = omega (arith, shaped .least, shaped .inside) in
-    let clear = neither _ _ (sym (set-append (part 21 8 packet) (part 53 1 packet)) ∙ shaped .clear) in
+    let clear = neither _ _ (sym (set-append (part 21 8 packet) (part 53 1 packet)) ∙ shaped .unset) in
     let eight : part 21 8 packet ≡ replicate 8 0 = zeros _ (clear .0) ∙ rw (length-part 21 8 packet (omega arith)) in
     let one : part 53 1 packet ≡ replicate 1 0 = zeros _ (clear .1) ∙ rw (length-part 53 1 packet (omega arith)) in
     let cut : part 5 49 packet ≡ part 5 16 packet ++ part 21 8 packet ++ part 29 24 packet ++ part 53 1 packet =

@@ -5,7 +5,7 @@ use Prim.Native.Nat.{ℕ, _+_, _*_, _-_}
 use lib.Dec.{eqb, ltb}
 use lib.ListN.{length, take, drop, getD, replicate}
 use Rattle.answer.specs.Answer.{done, shape, room, size, firstOf, onDone, wrong}
-use Rattle.octets.specs.Octets.{bigEndian, written}
+use Rattle.octets.specs.Octets.{bigEndian, pairAt, written}
 use Rattle.mschap_packets.specs.declared.Kind.{Kind}
 use Rattle.mschap_packets.specs.declared.Kind.the-variants as kinds
 use Rattle.mschap_packets.specs.declared.Challenge.{Challenge}

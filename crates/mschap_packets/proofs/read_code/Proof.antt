@@ -43,7 +43,7 @@ shaped p =
       size = sized .if3 .left ∙ size .value-size .ensures .0;
       least = omega (arith, least .least-length .ensures .0, length .length-field .ensures, inside .before .if4 .left);
       inside = omega (arith, length .length-field .ensures, inside .if5 .left);
-      clear = sym (set .reserved-set .ensures) ∙ p .if6 .left;
+      unset = sym (set .reserved-set .ensures) ∙ p .if6 .left;
     }
 
 least-length-requires : tie.Need-least-length-requires
