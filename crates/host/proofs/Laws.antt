@@ -28,7 +28,7 @@ use Rattle.ccp.specs.declared.Choice.{Choice}
 use Rattle.ccp.specs.declared.Reply.{Reply as CcpReply}
 use Rattle.ccp.specs.declared.Reply.the-variants.{Refused}
 use Rattle.ccp.specs.Option.{optionOctets, only}
-use Rattle.ccp.specs.Answers.{writeNumber, writeOut, replyAnswer, numberOf}
+use Rattle.ccp.specs.Answers.{writeCode, writeOut, replyAnswer, replyCodeOf}
 use Rattle.mppe.specs.declared.Link.{Link}
 use Rattle.mppe.specs.declared.NewLink.{NewLink}
 use Rattle.mppe.specs.declared.Outcome.{Outcome}
@@ -185,7 +185,7 @@ new-given bits start out h es en eo w = told (rw (eo, en, es, h)) w
 
 -- a reply's option written
 pub choice-written : {number : ℕ} {strengths : Strengths} {out′ : List ℕ} (c : Choice) (out : List ℕ) → strengths ≡ only (c .strength)
-    → (number ≡ writeNumber out) × (out′ ≡ writeOut (c .mode) strengths out)
+    → (number ≡ writeCode out) × (out′ ≡ writeOut (c .mode) strengths out)
     → Gave number out′ (given done (choiceOctets c) out)
 unfolding given choiceOctets optionOctets writeOut
 choice-written c out e w = (w .0, w .1 ∙ rw e)
@@ -203,8 +203,8 @@ choice-replied accept c e h eb = rw (← e, h, eb)
 
 pub replied : {rep rep′ : CcpReply} {r : Reply} {out′ : List ℕ} (option : List ℕ) (allowed : Strengths) (out : List ℕ)
     → rep ≡ replyAnswer option allowed → rep ≡ rep′
-    → (r ≡ replyOf rep′ (given (numberOf rep′) (replyOctets rep′) out .number))
-    × (out′ ≡ given (numberOf rep′) (replyOctets rep′) out .buffer)
+    → (r ≡ replyOf rep′ (given (replyCodeOf rep′) (replyOctets rep′) out .number))
+    × (out′ ≡ given (replyCodeOf rep′) (replyOctets rep′) out .buffer)
     → (r ≡ optionReply option allowed out) × (out′ ≡ optionGiven option allowed out .buffer)
 unfolding optionReply optionGiven
 replied option allowed out e e′ w = rw (sym e ∙ e′) w

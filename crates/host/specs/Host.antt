@@ -23,7 +23,7 @@ use Rattle.ccp.specs.declared.Choice.{Choice}
 use Rattle.ccp.specs.declared.Reply.{Reply as CcpReply}
 use Rattle.ccp.specs.declared.Reply.the-variants.{Accept, CounterOffer, Refused}
 use Rattle.ccp.specs.Option.{optionOctets, only}
-use Rattle.ccp.specs.Answers.{replyAnswer, numberOf}
+use Rattle.ccp.specs.Answers.{replyAnswer, replyCodeOf}
 use Rattle.mppe.specs.declared.Link.{Link}
 use Rattle.mppe.specs.Link.{Result, longestPlain, newLink, sealResult, openResult}
 use Rattle.mppe_record.specs.declared.RecordRead.{RecordRead}
@@ -121,7 +121,7 @@ allowedOf bits40 bits56 bits128 = record { bits40 = bits40; bits56 = bits56; bit
 
 -- "Option reply: 1, 8", then 2
 unfoldable pub optionGiven : List ℕ → Strengths → List ℕ → Given
-optionGiven option allowed out = given (numberOf (replyAnswer option allowed)) (replyOctets (replyAnswer option allowed)) out
+optionGiven option allowed out = given (replyCodeOf (replyAnswer option allowed)) (replyOctets (replyAnswer option allowed)) out
 
 unfoldable pub optionReply : List ℕ → Strengths → List ℕ → Reply
 optionReply option allowed out = replyOf (replyAnswer option allowed) (optionGiven option allowed out .number)
