@@ -2,16 +2,18 @@
 use mathlib.Core.Path.{_≡_, refl, sym, ap, _∙_}
 use mathlib.Core.List.{List, [], _∷_, map}
 use Prim.Native.Nat.{ℕ}
+use lib.ListN.{length}
 use Rattle.answer.specs.Answer.{done}
 use Rattle.mppe_keys.specs.declared.Strength.{Strength}
+use Rattle.mppe_keys.specs.Keys.{bitsOf}
 use Rattle.mppe.specs.declared.Link.{Link}
-use Rattle.mppe.specs.Link.{Result, longestPlain, newLink, sealResult, openResult}
+use Rattle.mppe.specs.Link.{Result, longestPlain, newLink, newLinkCode, sealResult, openResult}
 use Rattle.mppe.specs.Run.{SealCall, OpenCall, arrival, other, first, sealRun, openRun, Demand3}
 use Rattle.mppe.specs.Demand3.{demand-3-base}
-use Rattle.mppe_record.specs.Record.{strengthOf, recordOctets}
-use Rattle.mppe_record.specs.Laws.{Sized, new-sized, seal-sized, open-sized}
-use Rattle.host.specs.Host.{Given, Linked, linkedBy, sealLinked, openLinked}
-use Rattle.host.specs.Laws.{linked-on, new-whole}
+use Rattle.mppe_record.specs.Record.{strengthOf, recordLength, recordOctets}
+use Rattle.mppe_record.specs.Laws.{bits-back, bits-known, Sized, recordOctets-length, new-sized, seal-sized, open-sized}
+use Rattle.host.specs.Host.{Given, Linked, newLinkGiven, linkedBy, sealLinked, openLinked}
+use Rattle.host.specs.Laws.{linked-on, given-fits, new-whole}
 use Rattle.host.specs.Run.{Begun, sealsLinked, opensLinked, Demand3InC}
 
 -- a list of calls from the octets of a record on is the list of calls from that record on, every record as its octets
@@ -35,7 +37,20 @@ opens-linked l (other packet room ∷ cs) h =
     rw (linked-on (λ l. openResult longestPlain l packet room) l room h)
     (ap (λ (rs : List Linked). linkedBy r ∷ rs) (opens-linked (r .outcome .link) cs (open-sized longestPlain l packet room h)))
 
--- what both ends begin with
+new-code : (s : Strength) (start : List ℕ) → newLink s start .answer ≡ done → newLinkCode s start ≡ done
+unfolding newLink
+new-code s start ok = ok
+
+-- every strength and start key that make a new link begin such a run, in any 35 lent octets
+pub begins : (s : Strength) (start lent : List ℕ) → newLink s start .answer ≡ done → length lent ≡ recordLength
+    → Begun (bitsOf s) start (recordOctets (first s start))
+unfolding newLinkGiven
+begins s start lent ok h =
+    let all : length (recordOctets (first s start)) ≡ length lent = recordOctets-length (first s start) (new-sized s start) ∙ sym h in
+    let code : newLinkCode s start ≡ done = new-code s start ok in
+    (lent, h, rw (bits-known s, bits-back s, code) (given-fits (recordOctets (first s start)) lent all))
+
+-- and what they begin with
 begun-is : (bits : ℕ) (start octets : List ℕ) → Begun bits start octets
     → (newLink (strengthOf bits) start .answer ≡ done) × (octets ≡ recordOctets (first (strengthOf bits) start))
 begun-is bits start octets (lent, long, e) =

@@ -13,7 +13,7 @@ use Rattle.mppe.specs.declared.Link.{Link}
 use Rattle.mppe.specs.Link.{Result, longestPlain, newLink, newLinkCode, refusal, sealCode, sealResult, openCode, openResult}
 use Rattle.mppe_record.specs.Record.{strengthOf, noStrength, recordLength, recordOctets, recordRead}
 use Rattle.mppe_record.specs.Laws.{Sized, Octets, recordOctets-length, reads-back, writes-back, new-sized}
-use Rattle.host.specs.Host.{Linked, given, newLinkGiven, linkedBy, unchanged, linked, sealLinked, openLinked}
+use Rattle.host.specs.Host.{Given, Linked, given, newLinkGiven, linkedBy, unchanged, linked, sealLinked, openLinked}
 
 -- a call on the octets of a record is the call on that record
 pub linked-on : (call : Link → Result) (l : Link) (out : List ℕ) → Sized l → linked call (recordOctets l) out ≡ linkedBy (call l)
@@ -64,11 +64,15 @@ open-refused octets packet out = linked-refused (λ l. openResult longestPlain l
     each l = unfold openResult in refuses (openCode longestPlain l packet (length out)) _ l out refl
 
 -- a result that fills the lent buffer
+pub given-fits : (result out : List ℕ) → length result ≡ length out → given done result out ≡ record { number = done; buffer = result }
+unfolding given
+given-fits result out h =
+    rw (le-ltb (length out) (length result) (omega arith), drop-of-length-le out {i = length result} (omega arith), append-nil)
+
 pub given-whole : (code : ℕ) (result out : List ℕ) → length result ≡ length out → given code result out .number ≡ done
     → (code ≡ done) × (given code result out .buffer ≡ result)
 unfolding given
-given-whole zero result out h ok =
-    rw (le-ltb (length out) (length result) (omega arith)) (refl, rw (drop-of-length-le out {i = length result} (omega arith), append-nil))
+given-whole zero result out h ok = (refl, ap (λ (g : Given). g .buffer) (given-fits result out h))
 given-whole (suc n) result out h ok = absurd (omega arith)
 
 -- a new link that answered 0 into 35 lent octets leaves the octets of its record there
