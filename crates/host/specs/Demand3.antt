@@ -12,31 +12,37 @@ use Rattle.mppe.specs.Run.{SealCall, OpenCall, arrival, other, first, sealRun, 
 use Rattle.mppe.specs.Demand3.{demand-3-base}
 use Rattle.mppe_record.specs.Record.{strengthOf, recordLength, recordOctets}
 use Rattle.mppe_record.specs.Laws.{bits-back, bits-known, Sized, recordOctets-length, new-sized, seal-sized, open-sized}
-use Rattle.host.specs.Host.{Given, Linked, newLinkGiven, linkedBy, sealLinked, openLinked}
+use Rattle.host.specs.Host.{Given, Linked, newLinkGiven, linkedBy, linked, sealLinked, openLinked}
 use Rattle.host.specs.Laws.{linked-on, given-fits, new-whole}
 use Rattle.host.specs.Run.{Begun, sealsLinked, opensLinked, Demand3InC}
 
--- a list of calls from the octets of a record on is the list of calls from that record on, every record as its octets
-pub seals-linked : (l : Link) (cs : List SealCall) → Sized l → sealsLinked (recordOctets l) cs ≡ map linkedBy (sealRun longestPlain l cs)
+-- a call and the calls behind it: where those agree, so do all
+module _ (call : Link → Result) (behindInC : List ℕ → List Linked) (behind : Link → List Result) where
+  one-more : (l : Link) (out : List ℕ) → Sized l → Sized (call l .outcome .link)
+      → ((l′ : Link) → Sized l′ → behindInC (recordOctets l′) ≡ map linkedBy (behind l′))
+      → (let r : Linked = linked call (recordOctets l) out in r ∷ behindInC (r .octets))
+      ≡ map linkedBy (let r : Result = call l in r ∷ behind (r .outcome .link))
+  one-more l out h next agree = rw (linked-on call l out h) (ap (λ (rs : List Linked). linkedBy (call l) ∷ rs) (agree (call l .outcome .link) next))
+
+-- so a list of calls from the octets of a record on is the list of calls from that record on, every record as its octets
+pub seals-linked : (cs : List SealCall) (l : Link) → Sized l → sealsLinked (recordOctets l) cs ≡ map linkedBy (sealRun longestPlain l cs)
 unfolding sealsLinked sealRun sealLinked
-seals-linked l [] h = refl
-seals-linked l (c ∷ cs) h =
-    let r : Result = sealResult longestPlain l (c .plain) (c .room) in
-    rw (linked-on (λ l. sealResult longestPlain l (c .plain) (c .room)) l (c .room) h)
-    (ap (λ (rs : List Linked). linkedBy r ∷ rs) (seals-linked (r .outcome .link) cs (seal-sized longestPlain l (c .plain) (c .room) h)))
+seals-linked [] l h = refl
+seals-linked (c ∷ cs) l h =
+    one-more (λ l. sealResult longestPlain l (c .plain) (c .room)) (λ o. sealsLinked o cs) (λ l. sealRun longestPlain l cs) l (c .room) h
+    (seal-sized longestPlain l (c .plain) (c .room) h) (seals-linked cs)
 
-pub opens-linked : (l : Link) (cs : List OpenCall) → Sized l → opensLinked (recordOctets l) cs ≡ map linkedBy (openRun longestPlain l cs)
+pub opens-linked : (cs : List OpenCall) (l : Link) → Sized l → opensLinked (recordOctets l) cs ≡ map linkedBy (openRun longestPlain l cs)
 unfolding opensLinked openRun openLinked
-opens-linked l [] h = refl
-opens-linked l (arrival q packet room ∷ cs) h =
-    let r : Result = openResult longestPlain l packet room in
-    rw (linked-on (λ l. openResult longestPlain l packet room) l room h)
-    (ap (λ (rs : List Linked). linkedBy r ∷ rs) (opens-linked (r .outcome .link) cs (open-sized longestPlain l packet room h)))
-opens-linked l (other packet room ∷ cs) h =
-    let r : Result = openResult longestPlain l packet room in
-    rw (linked-on (λ l. openResult longestPlain l packet room) l room h)
-    (ap (λ (rs : List Linked). linkedBy r ∷ rs) (opens-linked (r .outcome .link) cs (open-sized longestPlain l packet room h)))
+opens-linked [] l h = refl
+opens-linked (arrival q packet room ∷ cs) l h =
+    one-more (λ l. openResult longestPlain l packet room) (λ o. opensLinked o cs) (λ l. openRun longestPlain l cs) l room h
+    (open-sized longestPlain l packet room h) (opens-linked cs)
+opens-linked (other packet room ∷ cs) l h =
+    one-more (λ l. openResult longestPlain l packet room) (λ o. opensLinked o cs) (λ l. openRun longestPlain l cs) l room h
+    (open-sized longestPlain l packet room h) (opens-linked cs)
 
+-- a new link's number
 new-code : (s : Strength) (start : List ℕ) → newLink s start .answer ≡ done → newLinkCode s start ≡ done
 unfolding newLink
 new-code s start ok = ok
@@ -64,5 +70,6 @@ demand-3-in-c bits start sender receiver sent received seals opens line =
     let (ok, sender-is) = begun-is bits start sender sent in
     let (_, receiver-is) = begun-is bits start receiver received in
     let (said, due) = demand-3-base s start ok seals opens line in
+    let sized : Sized (first s start) = new-sized s start in
     rw (sender-is, receiver-is)
-    (seals-linked (first s start) seals (new-sized s start) ∙ ap (map linkedBy) said, opens-linked (first s start) opens (new-sized s start) ∙ ap (map linkedBy) due)
+    (seals-linked seals (first s start) sized ∙ ap (map linkedBy) said, opens-linked opens (first s start) sized ∙ ap (map linkedBy) due)

@@ -149,7 +149,7 @@ linkedBy r =
       buffer = r .buffer;
     }
 
--- "hands back the record given and change[s] no lent octet"
+-- "Refusals 1 to 9 hand back the record given and change no lent octet"
 abbrev pub unchanged : ℕ → List ℕ → List ℕ → Linked
 unchanged number octets out = record { number = number; changed = 0; octets = octets; buffer = out }
 
