@@ -179,7 +179,7 @@ static void lengths(octet bits, size_t from, size_t to)
 {
     static const octet none[6];
 
-    numbered("length", from, 0, NULL, 0);
+    numbered("cases from", from, 0, NULL, 0);
     for (size_t n = from; n < to; n++)
         both(n, fresh(bits), n, 1520, none);
 }
@@ -190,7 +190,7 @@ static void cases(octet bits)
     static const octet none[6];
 
     printf("%d bits\n", bits);
-    numbered("new link", 0, 0, NULL, 0);
+    numbered("cases from", 0, 0, NULL, 0);
     for (size_t n = 0; n <= sizeof start_key; n++) {
         struct outcome o = new_link(bits, n);
 
@@ -198,19 +198,19 @@ static void cases(octet bits)
     }
     sample(bits);
     distances(bits);
-    numbered("rows", 0, 0, NULL, 0);
+    numbered("cases from", 0, 0, NULL, 0);
     rows_of(bits);
-    numbered("record", 0, 0, NULL, 0);
+    numbered("cases from", 0, 0, NULL, 0);
     for (size_t v = 0; v < 36; v++)
         both(v, altered(bits, v), 18, 18, none);
-    numbered("room", 4, 0, NULL, 0);
+    numbered("cases from", 4, 0, NULL, 0);
     for (size_t room = 4; room < 25; room++)
         both(room, fresh(bits), 18, room, none);
     lengths(bits, 4, 13);
     lengths(bits, 1500, 1506);
-    numbered("flags", 0, 0, NULL, 0);
+    numbered("cases from", 0, 0, NULL, 0);
     flags(bits);
-    numbered("protocol", 0, 0, NULL, 0);
+    numbered("cases from", 0, 0, NULL, 0);
     protocols(bits);
 }
 

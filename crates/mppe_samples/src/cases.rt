@@ -26,37 +26,53 @@ enum Kind {
 
 // Every fixed case at one strength.
 pub fn all(strength: Strength) {
-    headed(b"", strength);
-    each(strength, b"new link", Kind::NewLink, 0, 18);
+    headed(strength);
+    each(strength, Kind::NewLink, 0, 18);
     show_sample(fresh(strength), strength);
     distances(strength);
-    each(strength, b"rows", Kind::Rows, 0, 64);
-    each(strength, b"record", Kind::Record, 0, 36);
-    each(strength, b"room", Kind::Room, 4, 25);
-    each(strength, b"length", Kind::Length, 4, 13);
-    each(strength, b"length", Kind::Length, 1500, 1506);
-    each(strength, b"flags", Kind::Flags, 0, 16);
-    each(strength, b"protocol", Kind::Protocol, 0, 11);
+    each(strength, Kind::Rows, 0, 64);
+    each(strength, Kind::Record, 0, 36);
+    each(strength, Kind::Room, 4, 25);
+    each(strength, Kind::Length, 4, 13);
+    each(strength, Kind::Length, 1500, 1506);
+    each(strength, Kind::Flags, 0, 16);
+    each(strength, Kind::Protocol, 0, 11);
 }
 
 // The cases of a kind in a range of numbers.
-fn each(strength: Strength, label: &[u8], kind: Kind, from: usize, to: usize) {
-    report::numbered(label, from, 0, b"");
+fn each(strength: Strength, kind: Kind, from: usize, to: usize) {
+    report::numbered(b"cases from", from, 0, b"");
     for n in from..to {
         case(fresh(strength), kind, n);
     }
 }
 
-// One case, with a new link. A length is that of the sealed packet, and a room that for it.
+// One case, with a new link.
 fn case(link: Link, kind: Kind, n: usize) {
     match kind {
         Kind::NewLink => show_new(link, n),
-        Kind::Rows => both(n, link, counted_if(n % 2 == 1, link), rows(n)),
-        Kind::Record => both(n, link, altered(link, n), lent(18, 18)),
-        Kind::Room => both(n, link, link, lent(18, n)),
-        Kind::Length => both(n, link, link, lent(n, 1520)),
-        Kind::Flags => both(n, link, link, flags(n)),
-        Kind::Protocol => both(n, link, link, protocol(n)),
+        _ => both(n, link, record_of(link, kind, n), trial_of(kind, n)),
+    }
+}
+
+// The record of a case.
+fn record_of(link: Link, kind: Kind, n: usize) -> Link {
+    match kind {
+        Kind::Rows => counted_if(n % 2 == 1, link),
+        Kind::Record => altered(link, n),
+        _ => link,
+    }
+}
+
+// What a case lends. A length is that of the sealed packet, and a room that for it.
+fn trial_of(kind: Kind, n: usize) -> Trial {
+    match kind {
+        Kind::Rows => rows(n),
+        Kind::Room => lent(18, n),
+        Kind::Length => lent(n, 1520),
+        Kind::Flags => flags(n),
+        Kind::Protocol => protocol(n),
+        _ => lent(18, 18),
     }
 }
 
@@ -203,38 +219,18 @@ fn counted_if(wrong: bool, link: Link) -> Link {
 
 // A link with another count.
 fn counted(link: Link, count: u16) -> Link {
-    let strength = link.strength;
-    let start = link.start;
-    let session = link.session;
-    Link {
-        strength,
-        start,
-        session,
-        count,
-    }
+    let mut next = link;
+    next.count = count;
+    next
 }
 
-// Record number v.
+// Record number v: one place of the start key altered, one of the session key, another count, or a refused new link.
 fn altered(link: Link, v: usize) -> Link {
-    let strength = link.strength;
-    let start = link.start;
-    let session = link.session;
-    let count = link.count;
     if v < 16 {
-        return Link {
-            strength,
-            start: turned(start, v),
-            session,
-            count,
-        };
+        return other_start(link, v);
     }
     if v < 32 {
-        return Link {
-            strength,
-            start,
-            session: turned(session, v - 16),
-            count,
-        };
+        return other_session(link, v - 16);
     }
     if v == 32 {
         return counted(link, 4096);
@@ -245,8 +241,31 @@ fn altered(link: Link, v: usize) -> Link {
     if v == 34 {
         return counted(link, 4094);
     }
+    let strength = link.strength;
     let refused = Link::new(strength, &[]);
     refused.link
+}
+
+// A link with one place of its start key altered.
+fn other_start(link: Link, at: usize) -> Link
+    requires { ⌜ at < 16 ⌝ }
+{
+    let mut next = link;
+    let start = link.start;
+    let other = turned(start, at);
+    next.start = other;
+    next
+}
+
+// A link with one place of its session key altered.
+fn other_session(link: Link, at: usize) -> Link
+    requires { ⌜ at < 16 ⌝ }
+{
+    let mut next = link;
+    let session = link.session;
+    let other = turned(session, at);
+    next.session = other;
+    next
 }
 
 // A key with one bit of one place turned over.
@@ -275,9 +294,14 @@ fn ahead(strength: Strength, last: u16, packets: usize) {
     let link = counted(fresh(strength), last);
     let wire = last_packet(link, packets);
     report::numbered(b"last count", last as usize, 0, &wire);
+    show_opened(b"opened after packets", packets, link, &wire);
+}
+
+// Opens a packet of the message, and prints what it gave.
+fn show_opened(label: &[u8], n: usize, link: Link, packet: &[u8]) {
     let mut out = [0xEEu8; 14];
-    let made = link.open(&wire, &mut out);
-    show(b"opened after packets", packets, made, &out);
+    let made = link.open(packet, &mut out);
+    show(label, n, made, &out);
 }
 
 // The last of some packets sealed one after the other.
@@ -316,7 +340,5 @@ fn show_sample(link: Link, strength: Strength) {
 
 // Opens a packet under the initial session key, which no packet has.
 fn open_sample(link: Link, packet: &[u8]) {
-    let mut out = [0xEEu8; 14];
-    let made = link.open(packet, &mut out);
-    show(b"message under the initial session key", 0, made, &out);
+    show_opened(b"message under the initial session key", 0, link, packet);
 }

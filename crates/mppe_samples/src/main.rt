@@ -1,5 +1,5 @@
 // Links, packets sealed and opened, and every set of rows that refuse them.
-ghost use Prim.Native.Nat.{_<_};
+ghost use Prim.Native.Nat.{_<_, _≤_};
 use libc::STDOUT_FILENO;
 use mppe::Link;
 use mppe::NewLink;
@@ -44,34 +44,31 @@ fn new_link(strength: Strength, n: usize) -> NewLink {
     )
 }
 
-// A new link of the first n octets of a key; with a part that is not there, of all of it.
+// A new link of the first n octets of a key, as far as they go.
 fn linked(strength: Strength, start: &[u8], n: usize) -> NewLink {
-    if start.len() < n {
-        return Link::new(strength, start);
-    }
-    Link::new(strength, &start[0..n])
+    let given = least(n, start.len());
+    Link::new(strength, &start[0..given])
 }
 
-// Seals the first n octets of a packet into the first octets of a buffer; with a part that is not there, all of it.
+// Seals the first n octets of a packet into the first octets of a buffer, as far as they go.
 fn seal_within(link: Link, plain: &[u8], n: usize, out: &mut [u8], room: usize) -> Outcome {
-    if plain.len() < n {
-        return link.seal(plain, out);
-    }
-    if out.len() < room {
-        return link.seal(&plain[0..n], out);
-    }
-    link.seal(&plain[0..n], &mut out[0..room])
+    let given = least(n, plain.len());
+    let lent = least(room, out.len());
+    link.seal(&plain[0..given], &mut out[0..lent])
 }
 
-// Opens the first n octets of a packet into the first octets of a buffer; with a part that is not there, all of it.
+// Opens the first n octets of a packet into the first octets of a buffer, as far as they go.
 fn open_within(link: Link, packet: &[u8], n: usize, out: &mut [u8], room: usize) -> Outcome {
-    if packet.len() < n {
-        return link.open(packet, out);
-    }
-    if out.len() < room {
-        return link.open(&packet[0..n], out);
-    }
-    link.open(&packet[0..n], &mut out[0..room])
+    let given = least(n, packet.len());
+    let lent = least(room, out.len());
+    link.open(&packet[0..given], &mut out[0..lent])
+}
+
+// The lesser of two numbers.
+fn least(a: usize, b: usize) -> usize
+    ensures { λ r. ⌜ r ≤ b ⌝ }
+{
+    if a < b { a } else { b }
 }
 
 // Octets with bits of the first six turned over.
@@ -86,9 +83,8 @@ fn struck(octets: [u8; LENT], mask: [u8; 6]) -> [u8; LENT] {
     out
 }
 
-// Prints the bits of a strength behind a label.
-fn headed(label: &[u8], strength: Strength) {
-    io::write_all(STDOUT_FILENO, label);
+// Prints the bits of a strength.
+fn headed(strength: Strength) {
     io::print_decimal(STDOUT_FILENO, index(bits(strength)) as u64);
     io::write_all(STDOUT_FILENO, b" bits\n");
 }

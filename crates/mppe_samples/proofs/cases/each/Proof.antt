@@ -4,13 +4,16 @@ use Rattle.mppe_samples.proofs.cases.each.Statement.{statement}
 use Rattle.mppe_samples.proofs.cases.each.Tie as tie
 
 abbrev Inv-loop : tie.InvT-loop
-Inv-loop strength label kind from to n₀ n = n₀ ≤ n
+Inv-loop strength kind from to n₀ n = n₀ ≤ n
 
 abbrev μ-loop : tie.MeasureT-loop
-μ-loop strength label kind from to n₀ n = to - n
+μ-loop strength kind from to n₀ n = to - n
 
 slice-aggregate-numbered : tie.Need-slice-aggregate-numbered Inv-loop μ-loop
 slice-aggregate-numbered c = search needs
+
+slice-aggregate-numbered-2 : tie.Need-slice-aggregate-numbered-2 Inv-loop μ-loop
+slice-aggregate-numbered-2 c = search needs
 
 numbered-requires : tie.Need-numbered-requires Inv-loop μ-loop
 numbered-requires c κs = search needs
@@ -43,6 +46,7 @@ each-spec =
     Inv-loop
     μ-loop
     slice-aggregate-numbered
+    slice-aggregate-numbered-2
     numbered-requires
     loop-holds
     fresh-requires
