@@ -186,26 +186,16 @@ static void vectors(void)
     }
 }
 
-/* A key's box. */
-static void box_of(const char *label, part key)
+/* The box of a key of n octets. */
+static void box_of(size_t n)
 {
-    octet state[RC4_STATE];
-    int answer = keyed(key, state);
+    octet key[257], state[RC4_STATE];
+    int answer;
 
-    line(label, answer, state, 256);
-}
-
-/* Keys at and beyond the limits of their length. */
-static void keys(void)
-{
-    octet key[257];
-
-    for (unsigned n = 0, x = 7; n < sizeof key; n++, x = 5 * x + 2)
-        key[n] = (octet)x;
-    box_of("key of 0 octets", of(key, 0));
-    box_of("key of 1 octet", of(key, 1));
-    box_of("key of 256 octets", of(key, 256));
-    box_of("key of 257 octets", of(key, 257));
+    for (unsigned k = 0, x = 7; k < sizeof key; k++, x = 5 * x + 2)
+        key[k] = (octet)x;
+    answer = keyed(of(key, n), state);
+    numbered("key, octets", n, answer, state, 256);
 }
 
 /* The next sixteen draws, which leave the state after them. */
@@ -218,15 +208,15 @@ static void draw(const char *label, octet state[RC4_STATE])
     line(label, 0, o, 16);
 }
 
-/* The same draws by value and from a generator lent by reference. */
-static void both_draws(const char *by_value, const char *in_place, const octet state[RC4_STATE])
+/* Draws by value, and from a generator lent by reference. */
+static void both_draws(const char *label, const octet state[RC4_STATE])
 {
     octet copy[RC4_STATE];
 
     memcpy(copy, state, RC4_STATE);
-    draw(by_value, copy);
+    draw(label, copy);
     memcpy(copy, state, RC4_STATE);
-    draw(in_place, copy);
+    draw("the same in place", copy);
 }
 
 /* Draws from a key's box, and from one made by hand that is no permutation. */
@@ -235,11 +225,11 @@ static void draws(void)
     octet state[RC4_STATE];
 
     keyed(of(counted, 5), state);
-    both_draws("draws from a key", "draws from a key, in place", state);
+    both_draws("draws from a key", state);
     state[0] = state[200] = 9;
     state[256] = 255;
     state[257] = 200;
-    both_draws("draws from a box made by hand", "draws from it, in place", state);
+    both_draws("draws from a box made by hand", state);
 }
 
 /* A text under the key of 128 bits: the whole buffer, and draws after it. */
@@ -255,23 +245,27 @@ static void buffered(const char *label, size_t n, size_t room)
     draw("draws after it", state);
 }
 
-/* Texts at and beyond the limit of their length. */
-static void lengths(void)
+/* A text of n octets into a buffer, of which the last sixteen octets are shown. */
+static void last_sixteen(octet state[RC4_STATE], size_t n, size_t room)
 {
     static octet text[65536], out[65536];
-    octet state[RC4_STATE];
     int answer;
 
     memset(text, 0x11, sizeof text);
     memset(out, 0xEE, sizeof out);
+    answer = oracle_rc4_run(state, of(text, n), into(out, room));
+    numbered("text, octets", n, answer, out + room - 16, 16);
+}
+
+/* Texts at and beyond the limit of their length. */
+static void lengths(void)
+{
+    octet state[RC4_STATE];
+
     keyed(of(counted, 16), state);
-    answer = oracle_rc4_run(state, of(text, 65535), into(out, 65536));
-    line("text of 65535 octets", answer, out + 65520, 16);
-    memset(out, 0xEE, sizeof out);
-    answer = oracle_rc4_run(state, of(text, 65536), into(out, 65536));
-    line("text of 65536 octets", answer, out + 65520, 16);
-    answer = oracle_rc4_run(state, of(text, 65536), into(out, 16));
-    line("text of 65536 octets, no room", answer, out, 16);
+    last_sixteen(state, 65535, 65536);
+    last_sixteen(state, 65536, 65536);
+    last_sixteen(state, 65536, 16);
     draw("draws after it", state);
 }
 
@@ -300,7 +294,10 @@ int main(void)
         counted[n] = (octet)(n + 1);
     unhex("1ada31d5cf688221c109163908ebe51debb46227c6cc8b37641910833222772a", hashed);
     vectors();
-    keys();
+    box_of(0);
+    box_of(1);
+    box_of(256);
+    box_of(257);
     draws();
     buffered("buffer with room left", 9, 12);
     buffered("buffer as long as the text", 12, 12);

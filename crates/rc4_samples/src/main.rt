@@ -113,15 +113,22 @@ fn vector(label: &[u8], bits: usize, key: &[u8]) {
     let mut out = [0u8; REACH];
     let s = k.state;
     let r = s.run(&[0u8; REACH], &mut out);
-    around(r.answer, &out, 16);
-    around(r.answer, &out, 256);
-    around(r.answer, &out, 512);
-    around(r.answer, &out, 768);
-    around(r.answer, &out, 1024);
-    around(r.answer, &out, 1536);
-    around(r.answer, &out, 2048);
-    around(r.answer, &out, 3072);
-    around(r.answer, &out, 4096);
+    offsets(r.answer, &out);
+}
+
+// A keystream about each offset.
+fn offsets(answer: u8, out: &[u8])
+    requires { ⌜ length (now out) ≡ 4112 ⌝ }
+{
+    around(answer, out, 16);
+    around(answer, out, 256);
+    around(answer, out, 512);
+    around(answer, out, 768);
+    around(answer, out, 1024);
+    around(answer, out, 1536);
+    around(answer, out, 2048);
+    around(answer, out, 3072);
+    around(answer, out, 4096);
 }
 
 // Prints sixteen octets before an offset and sixteen behind it.
@@ -134,11 +141,21 @@ fn around(answer: u8, out: &[u8], offset: usize)
 
 // Keys at and beyond the limits of their length; a refusal's box is all zeros.
 fn keys() {
+    box_of(0);
+    box_of(1);
+    box_of(256);
+    box_of(257);
+}
+
+// Prints the box of a key of n octets.
+fn box_of(n: usize)
+    requires { ⌜ n ≤ 257 ⌝ }
+{
     let key = scattered();
-    box_of(b"key of 0 octets", &key[0..0]);
-    box_of(b"key of 1 octet", &key[0..1]);
-    box_of(b"key of 256 octets", &key[0..256]);
-    box_of(b"key of 257 octets", &key);
+    let k = Rc4::keyed(&key[0..n]);
+    let s = k.state;
+    let cells = s.cells;
+    report::numbered(b"key, octets", n, k.answer, &cells);
 }
 
 // A key of 257 octets, which repeat after 128.
@@ -154,14 +171,6 @@ fn scattered() -> [u8; 257] {
     key
 }
 
-// Prints the box of a key.
-fn box_of(label: &[u8], key: &[u8]) {
-    let k = Rc4::keyed(key);
-    let s = k.state;
-    let cells = s.cells;
-    report::line(label, k.answer, &cells);
-}
-
 // How a draw is made.
 enum Form {
     ByValue,
@@ -172,18 +181,24 @@ enum Form {
 fn draws() {
     let k = Rc4::keyed(&COUNTED[..5]);
     let s = k.state;
-    show_draws(b"draws from a key", Form::ByValue, s);
-    show_draws(b"draws from a key, in place", Form::ByReference, s);
+    both_draws(b"draws from a key", s);
     let mut cells = s.cells;
     cells[0] = 9;
     cells[200] = 9;
-    let made = Rc4 {
-        cells,
-        i: 255,
-        j: 200,
-    };
-    show_draws(b"draws from a box made by hand", Form::ByValue, made);
-    show_draws(b"draws from it, in place", Form::ByReference, made);
+    both_draws(
+        b"draws from a box made by hand",
+        Rc4 {
+            cells,
+            i: 255,
+            j: 200,
+        },
+    );
+}
+
+// Draws by value, and from a generator lent by reference.
+fn both_draws(label: &[u8], state: Rc4) {
+    show_draws(label, Form::ByValue, state);
+    show_draws(b"the same in place", Form::ByReference, state);
 }
 
 // Prints the next sixteen draws from a state.
@@ -225,26 +240,28 @@ fn drawn_in_place(state: Rc4) -> Drawn
 
 // Lent buffers longer than the text, as long, and one octet too short; an empty text.
 fn buffers() {
-    buffer(b"buffer with room left", &COUNTED[..9], &mut [0xEEu8; 12]);
-    buffer(
-        b"buffer as long as the text",
-        &COUNTED[..12],
-        &mut [0xEEu8; 12],
-    );
-    buffer(
-        b"buffer one octet too short",
-        &COUNTED[..13],
-        &mut [0xEEu8; 12],
-    );
-    buffer(b"empty text", &COUNTED[..0], &mut [0xEEu8; 12]);
-    buffer(b"empty text and buffer", &COUNTED[..0], &mut []);
+    buffer(b"buffer with room left", 9, 12);
+    buffer(b"buffer as long as the text", 12, 12);
+    buffer(b"buffer one octet too short", 13, 12);
+    buffer(b"empty text", 0, 12);
+    buffer(b"empty text and buffer", 0, 0);
 }
 
-// A run under one key: the whole buffer after it, and draws from the state that it hands back.
-fn buffer(label: &[u8], text: &[u8], out: &mut [u8]) {
+// A text of n octets run under one key: the whole buffer after it, and draws from the state that it hands back.
+fn buffer(label: &[u8], n: usize, room: usize)
+    requires { ⌜ (n ≤ 32) × (room ≤ 32) ⌝ }
+{
     let k = Rc4::keyed(&COUNTED[..16]);
     let s = k.state;
-    show_draws(b"draws after it", Form::ByValue, shown(label, s, text, out));
+    show_draws(b"draws after it", Form::ByValue, ran(label, s, 0, n, room));
+}
+
+// Runs a part of a text into a buffer, prints all of it, and hands back the state.
+fn ran(label: &[u8], s: Rc4, from: usize, to: usize, room: usize) -> Rc4
+    requires { ⌜ (from ≤ to) × (to ≤ 32) × (room ≤ 32) ⌝ }
+{
+    let mut out = [0xEEu8; 32];
+    shown(label, s, &COUNTED[from..to], &mut out[0..room])
 }
 
 // Runs a text, prints the whole buffer, and hands back the state.
@@ -256,31 +273,29 @@ fn shown(label: &[u8], s: Rc4, text: &[u8], out: &mut [u8]) -> Rc4 {
 
 // Texts at and beyond the limit of their length.
 fn lengths() {
-    let text = [0x11u8; 65536];
     let k = Rc4::keyed(&COUNTED[..16]);
     let s = k.state;
-    let t = last_sixteen(
-        b"text of 65535 octets",
-        s,
-        &text[..65535],
-        &mut [0xEEu8; 65536],
-    );
-    let u = last_sixteen(b"text of 65536 octets", t, &text, &mut [0xEEu8; 65536]);
-    let v = last_sixteen(
-        b"text of 65536 octets, no room",
-        u,
-        &text,
-        &mut [0xEEu8; 16],
-    );
+    let t = long(s, 65535, 65536);
+    let u = long(t, 65536, 65536);
+    let v = long(u, 65536, 16);
     show_draws(b"draws after it", Form::ByValue, v);
 }
 
-// Runs a text, prints the last sixteen octets of the buffer, and hands back the state.
-fn last_sixteen(label: &[u8], s: Rc4, text: &[u8], out: &mut [u8]) -> Rc4
+// Runs a long text of n octets into a long buffer, and hands back the state.
+fn long(s: Rc4, n: usize, room: usize) -> Rc4
+    requires { ⌜ (n ≤ 65536) × (16 ≤ room) × (room ≤ 65536) ⌝ }
+{
+    let text = [0x11u8; 65536];
+    let mut out = [0xEEu8; 65536];
+    last_sixteen(n, s, &text[0..n], &mut out[0..room])
+}
+
+// Runs it, and prints the last sixteen octets of the buffer.
+fn last_sixteen(n: usize, s: Rc4, text: &[u8], out: &mut [u8]) -> Rc4
     requires { ⌜ 16 ≤ length (now out) ⌝ }
 {
     let r = s.run(text, out);
-    report::line(label, r.answer, &out[out.len() - 16..]);
+    report::numbered(b"text, octets", n, r.answer, &out[out.len() - 16..]);
     r.state
 }
 
@@ -288,9 +303,9 @@ fn last_sixteen(label: &[u8], s: Rc4, text: &[u8], out: &mut [u8]) -> Rc4
 fn parts() {
     let k = Rc4::keyed(&HASHED);
     let s = k.state;
-    shown(b"text in one run", s, &COUNTED, &mut [0u8; 32]);
-    let t = shown(b"its first 13 octets", s, &COUNTED[..13], &mut [0u8; 13]);
-    shown(b"the rest of them", t, &COUNTED[13..], &mut [0u8; 19]);
+    ran(b"text in one run", s, 0, 32, 32);
+    let t = ran(b"its first 13 octets", s, 0, 13, 13);
+    ran(b"the rest of them", t, 13, 32, 19);
 }
 
 // A text run twice from one state.
