@@ -9,8 +9,9 @@ use lib.Seq.{getD-set-same}
 use Rattle.rc4.specs.Cipher.{box, swap, nextI, nextJ, step, drawn}
 use Rattle.rc4.specs.declared.Rc4.{Rc4}
 use Rattle.rc4.specs.declared.Drawn.{Drawn}
-use Rattle.rc4.specs.Blocks.{wrapped}
+use Rattle.rc4.specs.InPlace.{wrapped, OctetCells}
 use Rattle.rc4.specs.Answers.{drawAnswer}
+use Rattle.rc4.proofs.Boxes.{swap-octets}
 
 -- after a swap each of the two cells has what the other had
 swap-first : (c : List ℕ) (a b : ℕ) → a < length c → getD (swap c a b) a 0 ≡ getD c b 0
@@ -34,24 +35,26 @@ stepped c c′ i j x swapped read =
 
 -- the octet of a draw
 pub drew : (c c′ : List ℕ) (i j x y : ℕ) → c′ ≡ swap c ((i + 1) % 256) ((j + x) % 256) → x ≡ getD c ((i + 1) % 256) 0 → y ≡ getD c ((j + x) % 256) 0
-    → length c ≡ 256 → getD c′ ((y + x) % 256) 0 ≡ drawn (wrapped c i j)
+    → OctetCells c → getD c′ ((y + x) % 256) 0 % 256 ≡ drawn (wrapped c i j)
 unfolding drawn
-drew c c′ i j x y swapped read-x read-y long =
+drew c c′ i j x y swapped read-x read-y whole =
+    let long = whole .long in
+    let octet : getD c′ ((y + x) % 256) 0 < 256 = rw swapped (swap-octets c ((i + 1) % 256) ((j + x) % 256) whole .octets ((y + x) % 256)) in
     let first = swap-first c ((i + 1) % 256) ((j + x) % 256) (omega arith) in
     let second = swap-second c ((i + 1) % 256) ((j + x) % 256) (omega arith) in
-    rw (← stepped c c′ i j x swapped read-x) (rw (swapped, first, second, ← read-x, ← read-y))
+    rw (mod-eq-of-lt octet, ← stepped c c′ i j x swapped read-x) (rw (swapped, first, second, ← read-x, ← read-y))
 
--- a draw keeps the box's length
-pub step-long : (s : Rc4) {s′ : Rc4} → s′ ≡ step s → length (s .cells) ≡ 256 → length (s′ .cells) ≡ 256
+-- a draw keeps the box's length, and its cells octets
+pub step-octets : (s : Rc4) {s′ : Rc4} → s′ ≡ step s → OctetCells (s .cells) → OctetCells (s′ .cells)
 unfolding step
-step-long s e long = rw e (simp length-set long)
+step-octets s e whole = rw e (swap-octets (s .cells) (nextI s) (nextJ s) whole)
 
 -- a state's own indices are octets, which wrapping leaves as they are
-pub narrow : (s : Rc4) (i j : ℕ) → i ≡ s .i → j ≡ s .j → i < 256 → j < 256 → wrapped (s .cells) i j ≡ s
-narrow s i j ei ej hi hj = rw (mod-eq-of-lt hi, mod-eq-of-lt hj, ei, ej)
+pub unwrapped : (s : Rc4) {c : List ℕ} (i j : ℕ) → c ≡ s .cells → i ≡ s .i → j ≡ s .j → i < 256 → j < 256 → wrapped c i j ≡ s
+unwrapped s i j ec ei ej hi hj = rw (mod-eq-of-lt hi, mod-eq-of-lt hj, ec, ei, ej)
 
--- what a draw by value answers, from a draw in place
-pub draw-answers : (s : Rc4) (c : List ℕ) (i j o i′ j′ d : ℕ) → i ≡ s .i → j ≡ s .j → o ≡ drawn (wrapped (s .cells) i j) → wrapped c (i + 1) d ≡ step (wrapped (s .cells) i j)
-    → i′ ≡ (i + 1) % 256 → j′ ≡ d % 256 → i < 256 → j < 256 → _≡_ {A = Drawn} (record { octet = o; state = box c i′ j′ }) (drawAnswer s)
-draw-answers s c i j o i′ j′ d ei ej eo es ei′ ej′ hi hj =
-    rw (eo, ei′, ej′, es, narrow s i j ei ej hi hj)
+-- what a draw by value answers, from a draw in place over its cells as words, narrowed
+pub draw-answers : (s : Rc4) {words words′ c : List ℕ} (i j d : ℕ) {o i′ j′ : ℕ} → words ≡ s .cells → i ≡ s .i → j ≡ s .j → o ≡ drawn (wrapped words i j)
+    → wrapped words′ (i + 1) d ≡ step (wrapped words i j) → c ≡ words′ → i′ ≡ (i + 1) % 256 → j′ ≡ d % 256 → i < 256 → j < 256
+    → _≡_ {A = Drawn} (record { octet = o; state = box c i′ j′ }) (drawAnswer s)
+draw-answers s i j d ec ei ej eo es ec′ ei′ ej′ hi hj = rw (eo, ec′, ei′, ej′, es, unwrapped s i j ec ei ej hi hj)

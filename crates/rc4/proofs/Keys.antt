@@ -1,9 +1,9 @@
 -- The key schedule, a round at a time.
-use mathlib.Core.Path.{_≡_}
-use mathlib.Core.List.{List}
-use Prim.Native.Nat.{ℕ, _+_, _%_, _<_, _≤_}
+use mathlib.Core.Path.{_≡_, refl, sym, ap, _∙_}
+use mathlib.Core.List.{List, [], _∷_, _++_}
+use Prim.Native.Nat.{ℕ, zero, suc, _+_, _*_, _%_, _<_, _≤_}
 use borrow.Author.Tests.{lt-ltb, le-ltb}
-use native.Mathlib.Nat.{mod-eq-of-lt, mod-add-mod}
+use native.Mathlib.Nat.{mod-add-mod, zero-mod}
 use native.Mathlib.Numerals.{add-one}
 use native.Mathlib.Omega.{arith}
 use lib.ListN.{length, take, set, getD, replicate}
@@ -11,29 +11,67 @@ use lib.Seq.{take-suc-set}
 use Rattle.answer.specs.Answer.{size}
 use Rattle.rc4.specs.declared.Keyed.{Keyed}
 use Rattle.rc4.specs.Cipher.{box, below, swap, roundJ, round, rounds}
+use Rattle.rc4.specs.InPlace.{OctetCells}
+use Rattle.rc4.specs.Laws.{below-length}
+use Rattle.rc4.proofs.Boxes.{swap-octets}
 use Rattle.rc4.specs.Answers.{shortestKey, longestKey, keyedAnswer}
 
 -- one cell more of the box that a key schedule starts from
-pub below-more : (cells : List ℕ) (n v : ℕ) → take n cells ≡ below n → v ≡ n % 256 → length cells ≡ 256 → n < 256 → take (n + 1) (set cells n v) ≡ below (n + 1)
+pub below-more : (cells : List ℕ) (n : ℕ) → take n cells ≡ below n → length cells ≡ 256 → n < 256 → take (n + 1) (set cells n n) ≡ below (n + 1)
 unfolding below
-below-more cells n v e read long h =
+below-more cells n e long h =
     let fits : n < length cells = omega arith in
-    rw (add-one, take-suc-set cells n v fits, e, read, mod-eq-of-lt h)
+    rw (add-one, take-suc-set cells n n fits, e)
 
--- the place of the next round in the key
-pub next-mod : (place i n : ℕ) → place ≡ i % n → (place + 1) % n ≡ (i + 1) % n
-next-mod place i n e = rw e (mod-add-mod i n 1)
+-- an octet behind octets
+snoc-octets : (l : List ℕ) (v : ℕ) → v < 256 → ((k : ℕ) → getD l k 0 < 256) → (k : ℕ) → getD (l ++ (v ∷ [])) k 0 < 256
+snoc-octets [] v fits e zero = fits
+snoc-octets [] v fits e (suc k) = omega arith
+snoc-octets (x ∷ xs) v fits e zero = e 0
+snoc-octets (x ∷ xs) v fits e (suc k) = snoc-octets xs v fits (λ m. e (suc m)) k
+
+-- the numbers below n are octets
+below-octets : (n : ℕ) → n ≤ 256 → (k : ℕ) → getD (below n) k 0 < 256
+unfolding below
+below-octets zero h k = omega arith
+below-octets (suc n) h k = snoc-octets (below n) n h (below-octets n (omega arith)) k
+
+-- the box, j and the place in the key after the first i rounds, j not wrapped mod 256
+pub record Mixed (key cells : List ℕ) (place j i : ℕ) : Type 0 where
+  pub inside : place < length key
+  pub place-is : place ≡ i % length key
+  pub near : j ≤ 510 * i
+  pub whole : OctetCells cells
+  pub cells-are : cells ≡ rounds key i .cells
+  pub j-is : j % 256 ≡ rounds key i .j
+
+-- before the first round
+pub mixed-none : (key : List ℕ) {cells : List ℕ} → cells ≡ below 256 → 1 ≤ length key → Mixed key cells 0 0 0
+unfolding rounds
+mixed-none key {cells} e h = record {
+  inside = h;
+  place-is = sym (zero-mod _);
+  near = omega arith;
+  whole = rw e (record { long = below-length 256; octets = below-octets 256 (omega arith) });
+  cells-are = e;
+  j-is = refl;
+}
 
 -- one round more
-module _ (key cells cells′ : List ℕ) (i j j′ k : ℕ) (is : cells ≡ rounds key i .cells) (at : j % 256 ≡ rounds key i .j)
-    (read : k ≡ getD key (i % length key) 0) (sum : j′ ≡ j + getD cells i 0 + k) where
-  pub round-j : j′ % 256 ≡ rounds key (i + 1) .j
-  unfolding rounds round roundJ
-  round-j = rw (add-one, ← at, ← is, ← read, sum) (omega arith)
-
-  pub round-cells : cells′ ≡ swap cells i (j′ % 256) → cells′ ≡ rounds key (i + 1) .cells
-  unfolding rounds round
-  round-cells swapped = rw add-one (rw (round-j, add-one, is) at swapped)
+pub mixed-more : {key cells cells′ : List ℕ} {place j i place′ j′ : ℕ} → Mixed key cells place j i → j′ ≡ j + getD cells i 0 + getD key place 0 → j′ ≤ j + 510
+    → cells′ ≡ swap cells i (j′ % 256) → place′ ≡ (place + 1) % length key → place′ < length key → Mixed key cells′ place′ j′ (i + 1)
+unfolding rounds round roundJ
+mixed-more {key} {cells} {cells′} {place} {j} {i} {place′} {j′} m sum near swapped next inside =
+    let read : getD key place 0 ≡ getD key (i % length key) 0 = ap (λ k. getD key k 0) (m .place-is) in
+    let j-is : j′ % 256 ≡ rounds key (i + 1) .j = rw (add-one, ← m .j-is, ← m .cells-are, ← read, sum) (omega arith) in
+    record {
+      inside = inside;
+      place-is = next ∙ rw (m .place-is) (mod-add-mod i (length key) 1);
+      near = omega (arith, m .near);
+      whole = rw swapped (swap-octets cells i (j′ % 256) (m .whole));
+      cells-are = rw add-one (rw (j-is, add-one, m .cells-are) at swapped);
+      j-is = j-is;
+    }
 
 -- a refused key answers its number, and zeros
 module _ (key : List ℕ) where

@@ -1,3 +1,4 @@
+pub mod Boxes
 pub mod Draws
 pub mod Keys
 pub mod Runs

@@ -11,24 +11,24 @@ use lib.Seq.{drop-cons, take-suc-set, set-split, drop-drop, take-all, length-tak
 use Rattle.octets.specs.Octets.{written}
 use Rattle.rc4.specs.declared.Rc4.{Rc4}
 use Rattle.rc4.specs.Cipher.{step, drawn, run, after}
-use Rattle.rc4.specs.Blocks.{wrapped, xors, Finished}
+use Rattle.rc4.specs.InPlace.{wrapped, xors, OctetCells, Finished}
 use Rattle.rc4.specs.Laws.{run-length, run-cut, after-cut}
-use Rattle.rc4.proofs.Draws.{step-long}
+use Rattle.rc4.proofs.Draws.{step-octets}
 
 -- s and out₀ are the state and the buffer where the run began, s′ and out what they are
 pub record Running (s s′ : Rc4) (text out₀ out : List ℕ) (n : ℕ) : Type 0 where
   pub within : n ≤ length text
   pub room : length text ≤ length out
   pub same : length out ≡ length out₀
-  pub long : length (s′ .cells) ≡ 256
+  pub whole : OctetCells (s′ .cells)
   pub octets : run s text ≡ take n out ++ run s′ (drop n text)
   pub state : after s text ≡ after s′ (drop n text)
   pub rest : drop n out ≡ drop n out₀
 
 -- at the start
-pub begun : (c text out : List ℕ) (i j : ℕ) → length c ≡ 256 → length text ≤ length out → Running (wrapped c i j) (wrapped c (i + 0) j) text out out 0
-begun c text out i j long room =
-    rw add-zero (record { within = omega arith; room = room; same = refl; long = long; octets = refl; state = refl; rest = refl })
+pub begun : (c text out : List ℕ) (i j : ℕ) → OctetCells c → length text ≤ length out → Running (wrapped c i j) (wrapped c (i + 0) j) text out out 0
+begun c text out i j whole room =
+    rw add-zero (record { within = omega arith; room = room; same = refl; whole = whole; octets = refl; state = refl; rest = refl })
 
 -- at the end of the text, the buffer
 written-all : {s s′ : Rc4} {text out₀ out : List ℕ} {n : ℕ} → Running s s′ text out₀ out n → length text ≤ n → out ≡ written (run s text) out₀
@@ -81,9 +81,9 @@ after-zeros s (x ∷ xs) = after-zeros (step s) xs
 
 -- the next m octets at once
 more-block : {s s′ s″ : Rc4} {text out₀ out ys : List ℕ} {n : ℕ} (m : ℕ) → Running s s′ text out₀ out n → ys ≡ run s′ (take m (drop n text))
-    → s″ ≡ after s′ (take m (drop n text)) → length (s″ .cells) ≡ 256 → n + m ≤ length text
+    → s″ ≡ after s′ (take m (drop n text)) → OctetCells (s″ .cells) → n + m ≤ length text
     → Running s s″ text out₀ (take n out ++ (ys ++ drop m (drop n out))) (n + m)
-more-block {s} {s′} {s″} {text} {out₀} {out} {ys} {n} m r wrote stepped long h =
+more-block {s} {s′} {s″} {text} {out₀} {out} {ys} {n} m r wrote stepped whole h =
     let block = take m (drop n text) in
     let left : drop n text ≡ block ++ drop (n + m) text = sym (take-append-drop m (drop n text)) ∙ ap (λ l. block ++ l) (drop-drop m n text) in
     let fits : m ≤ length (drop n text) = simp length-drop (omega arith) in
@@ -95,7 +95,7 @@ more-block {s} {s′} {s″} {text} {out₀} {out} {ys} {n} m r wrote stepped lo
       within = h;
       room = rw size (r .room);
       same = size ∙ r .same;
-      long = long;
+      whole = whole;
       octets = rw (take-at (take n out ++ ys) (drop (n + m) out) (n + m) front, wrote, stepped, append-assoc, ← run-cut s′ block (drop (n + m) text), ← left) (r .octets);
       state = r .state ∙ ap (after s′) left ∙ after-cut s′ block (drop (n + m) text) ∙ ap (λ t. after t (drop (n + m) text)) (sym stepped);
       rest = drop-at (take n out ++ ys) (drop (n + m) out) (n + m) front ∙ sym (drop-drop m n out) ∙ ap (drop m) (r .rest) ∙ drop-drop m n out₀;
@@ -109,20 +109,20 @@ more {s} {s′} {s″} {text} {out₀} {out} {n} {v} r stepped drew h =
     let fits : n < length out = omega (arith, r .room) in
     let one : take 1 (drop n text) ≡ getD text n 0 ∷ [] = ap (take 1) (drop-cons text n 0 h) in
     let stored : set out n v ≡ take n out ++ ((v ∷ []) ++ drop 1 (drop n out)) = rw (drop-cons out n 0 fits) (set-split out n v fits) in
-    rw stored (more-block {ys = v ∷ []} 1 r (rw (one, drew)) (rw one stepped) (step-long s′ stepped (r .long)) (omega arith))
+    rw stored (more-block {ys = v ∷ []} 1 r (rw (one, drew)) (rw one stepped) (step-octets s′ stepped (r .whole)) (omega arith))
 
 -- the next eight octets, from eight of keystream
 pub more-eight : {s s′ s″ : Rc4} {text out₀ out ys octets : List ℕ} {n : ℕ} (k : ℕ) → Running s s′ text out₀ out n → octets ≡ run s′ (replicate 8 0)
-    → s″ ≡ after s′ (replicate 8 0) → length (s″ .cells) ≡ 256 → ys ≡ xors (take k (drop n text)) octets → k ≡ 8 → n + 8 ≤ length text
+    → s″ ≡ after s′ (replicate 8 0) → OctetCells (s″ .cells) → ys ≡ xors (take k (drop n text)) octets → k ≡ 8 → n + 8 ≤ length text
     → Running s s″ text out₀ (take n out ++ (ys ++ drop k (drop n out))) (n + 8)
-more-eight {s} {s′} {s″} {text} {out₀} {out} {ys} {octets} {n} k r drew stepped long wrote eight h =
+more-eight {s} {s′} {s″} {text} {out₀} {out} {ys} {octets} {n} k r drew stepped whole wrote eight h =
     let block = take 8 (drop n text) in
     let sized : length block ≡ 8 = length-take-le 8 (drop n text) (simp length-drop (omega arith)) in
-    rw eight (more-block 8 r ((rw (eight, drew) at wrote) ∙ sym (rw sized at (run-zeros s′ block))) (stepped ∙ sym (rw sized at (after-zeros s′ block))) long h)
+    rw eight (more-block 8 r ((rw (eight, drew) at wrote) ∙ sym (rw sized at (run-zeros s′ block))) (stepped ∙ sym (rw sized at (after-zeros s′ block))) whole h)
 
 -- a loop that has come to the end of its text
 pub finished : {c c′ text out₀ out : List ℕ} {i j j′ n : ℕ} → Running (wrapped c i j) (wrapped c′ (i + n) j′) text out₀ out n → length text ≤ n → j′ ≤ j + 255 * n
     → Finished c i j text out₀ c′ j′ out
 finished {c} {c′} {text} {out₀} {out} {i} {j} {j′} {n} r h near =
     let all : n ≡ length text = omega (arith, r .within) in
-    record { wrote = written-all r h; stepped = rw all at (after-all r h); whole = r .long; near = rw (← all) near }
+    record { wrote = written-all r h; stepped = rw all at (after-all r h); whole = r .whole; near = rw (← all) near }

@@ -11,10 +11,10 @@ use Rattle.octets.specs.Octets.{written, longestText}
 use Rattle.rc4.specs.declared.Rc4.{Rc4}
 use Rattle.rc4.specs.declared.Ran.{Ran}
 use Rattle.rc4.specs.Cipher.{box, run, after}
-use Rattle.rc4.specs.Blocks.{wrapped}
+use Rattle.rc4.specs.InPlace.{wrapped}
 use Rattle.rc4.specs.Answers.{runCode, runAnswer, runOut}
 use Rattle.rc4.specs.Laws.{run-length, run-cut, after-cut}
-use Rattle.rc4.proofs.Draws.{narrow}
+use Rattle.rc4.proofs.Draws.{unwrapped}
 
 -- a part from m on is what is left
 part-rest : (m : ℕ) (l : List ℕ) → take (length l - m) (drop m l) ≡ drop m l
@@ -51,20 +51,20 @@ module _ (s s₁ : Rc4) (text : List ℕ) (m : ℕ) (first : s₁ ≡ after s (t
       let whole : front ++ rest ≡ run s text = rw (first, ← run-cut s (take m text) (drop m text), take-append-drop) in
       rw (took, none, second, append-nil, written-cut front rest out, whole)
 
--- the same from the loops over a box in place, with their indices wrapped at the end
-pub whole-text : (s : Rc4) (text out out₁ zs c₁ c₂ : List ℕ) (m i j j₁ j₂ i′ j′ : ℕ) → i ≡ s .i → j ≡ s .j
-    → out₁ ≡ written (run (wrapped (s .cells) i j) (take m text)) out
-    → wrapped c₁ (i + length (take m text)) j₁ ≡ after (wrapped (s .cells) i j) (take m text)
+-- the same from the loops over the cells as words in place, narrowed and with their indices wrapped at the end
+pub whole-text : (s : Rc4) (text out out₁ zs c₁ : List ℕ) {words c₂ c : List ℕ} (m i j j₁ j₂ : ℕ) {i′ j′ : ℕ} → words ≡ s .cells → i ≡ s .i → j ≡ s .j
+    → out₁ ≡ written (run (wrapped words i j) (take m text)) out
+    → wrapped c₁ (i + length (take m text)) j₁ ≡ after (wrapped words i j) (take m text)
     → zs ≡ written (run (wrapped c₁ (i + m) j₁) (take (length text - m) (drop m text))) (take (length out₁ - m) (drop m out₁))
     → wrapped c₂ (i + m + length (take (length text - m) (drop m text))) j₂ ≡ after (wrapped c₁ (i + m) j₁) (take (length text - m) (drop m text))
-    → i′ ≡ (i + length text) % 256 → j′ ≡ j₂ % 256 → i < 256 → j < 256 → m ≤ length text
-    → (box c₂ i′ j′ ≡ after s text) × (take m out₁ ++ (zs ++ drop (length out₁ - m) (drop m out₁)) ≡ written (run s text) out)
-whole-text s text out out₁ zs c₁ c₂ m i j j₁ j₂ i′ j′ ei ej wrote₁ after₁ wrote₂ after₂ ei′ ej′ hi hj h =
-    let same = narrow s i j ei ej hi hj in
+    → c ≡ c₂ → i′ ≡ (i + length text) % 256 → j′ ≡ j₂ % 256 → i < 256 → j < 256 → m ≤ length text
+    → (box c i′ j′ ≡ after s text) × (take m out₁ ++ (zs ++ drop (length out₁ - m) (drop m out₁)) ≡ written (run s text) out)
+whole-text s text out out₁ zs c₁ {c = c} m i j j₁ j₂ {i′} {j′} ec ei ej wrote₁ after₁ wrote₂ after₂ ec′ ei′ ej′ hi hj h =
+    let same = unwrapped s i j ec ei ej hi hj in
     let sum : i + m + length (take (length text - m) (drop m text)) ≡ i + length text = omega (arith, part-rest-length m text) in
     let first : wrapped c₁ (i + m) j₁ ≡ after s (take m text) = rw (length-take-le m text h, same) at after₁ in
-    let last : box c₂ i′ j′ ≡ after (wrapped c₁ (i + m) j₁) (take (length text - m) (drop m text)) = rw (ei′, ej′) (rw sum at after₂) in
-    (after-parts s (wrapped c₁ (i + m) j₁) text m first (box c₂ i′ j′) last, written-parts s (wrapped c₁ (i + m) j₁) text m first out out₁ zs (rw same at wrote₁) wrote₂ h)
+    let last : box c i′ j′ ≡ after (wrapped c₁ (i + m) j₁) (take (length text - m) (drop m text)) = rw (ec′, ei′, ej′) (rw sum at after₂) in
+    (after-parts s (wrapped c₁ (i + m) j₁) text m first (box c i′ j′) last, written-parts s (wrapped c₁ (i + m) j₁) text m first out out₁ zs (rw same at wrote₁) wrote₂ h)
 
 -- a refused run answers its number, and leaves the state and the buffer as they are
 module _ (s : Rc4) (text out : List ℕ) where

@@ -76,7 +76,7 @@ Whole cells = (length cells ≡ 256) × Perm cells (below 256)
 swap-whole : (c : List ℕ) (a b : ℕ) → a < 256 → b < 256 → Whole c → Whole (swap c a b)
 swap-whole c a b ha hb (long, perm) = (simp length-set long, Perm·trans (swap-perm c a b (omega arith) (omega arith)) perm)
 
-below-length : (n : ℕ) → length (below n) ≡ n
+pub below-length : (n : ℕ) → length (below n) ≡ n
 unfolding below
 below-length zero = refl
 below-length (suc n) = length-append (below n) (n ∷ []) ∙ rw (below-length n) (add-one n)

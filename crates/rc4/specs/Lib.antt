@@ -1,4 +1,4 @@
 pub mod Cipher
 pub mod Answers
 pub mod Laws
-pub mod Blocks
+pub mod InPlace

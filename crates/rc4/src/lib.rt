@@ -5,7 +5,7 @@ ghost use lib.ListN.{length, getD, replicate};
 ghost use Rattle.octets.specs.Octets.{written, longestText};
 ghost use Rattle.rc4.specs.Cipher.{below, swap, rounds, step, drawn, run, after};
 ghost use Rattle.rc4.specs.Answers.{keyedAnswer, drawAnswer, runAnswer, runOut};
-ghost use Rattle.rc4.specs.Blocks.{wrapped, xors, Ready, Finished};
+ghost use Rattle.rc4.specs.InPlace.{wrapped, xors, OctetCells, Ready, Finished};
 
 // The shortest key (01, "Lengths").
 pub const SHORTEST_KEY: usize = 1;
@@ -66,11 +66,12 @@ impl Rc4 {
     pub fn draw(self) -> Drawn
         ensures { λ r. ⌜ r ≡ drawAnswer self ⌝ }
     {
-        let mut cells = self.cells;
+        let cells = self.cells;
+        let mut words = widen(cells);
         let i = index(self.i);
-        let d = advance(&mut cells, i, index(self.j));
+        let d = advance(&mut words, i, index(self.j));
         let state = Rc4 {
-            cells,
+            cells: narrow(words),
             i: octet(i + 1),
             j: octet(d.j),
         };
@@ -115,7 +116,7 @@ pub fn draw_next(g: &mut Rc4) -> u8
     d.octet
 }
 
-// The box of a key after all rounds. j is not wrapped mod 256 between them.
+// The box of a key after all rounds, eight in each turn. j is not wrapped mod 256 between them.
 fn key_schedule(key: &[u8]) -> [u8; 256]
     requires { ⌜ 1 ≤ length (now key) ⌝ }
     ensures { λ r. ⌜ r ≡ rounds (now (key .entry)) 256 .cells ⌝ }
@@ -125,33 +126,37 @@ fn key_schedule(key: &[u8]) -> [u8; 256]
     let mut j = 0;
     let mut i = 0;
     while i < 256 {
-        j = mix(&mut cells, i, j, key[place]);
-        place = next_place(place, key.len());
-        i += 1;
+        let mut k = 0;
+        while k < 8 {
+            j = mix(&mut cells, i + k, j, key[place]);
+            place = next_place(place, key.len());
+            k += 1;
+        }
+        i += 8;
     }
-    cells
+    narrow(cells)
 }
 
 // The numbers 0 to 255, in order.
-fn ascending() -> [u8; 256]
+fn ascending() -> [u32; 256]
     ensures { λ r. ⌜ r ≡ below 256 ⌝ }
 {
-    let mut cells = [0u8; 256];
+    let mut cells = [0u32; 256];
     let mut n = 0;
     while n < 256 {
-        cells[n] = octet(n);
+        cells[n] = n as u32;
         n += 1;
     }
     cells
 }
 
 // One round of the key schedule: the next j, and two cells swapped.
-fn mix(cells: &mut [u8; 256], i: usize, j: usize, k: u8) -> usize
-    requires { ⌜ (i < 256) × (j < 2 ^ 32) ⌝ }
+fn mix(cells: &mut [u32; 256], i: usize, j: usize, k: u8) -> usize
+    requires { ⌜ OctetCells (now cells) × (i < 256) × (j < 2 ^ 32) ⌝ }
     ensures { λ r. ⌜ (r ≡ j + getD (now (cells .entry)) i 0 + k) × (r ≤ j + 510)
         × (now (cells .exit) ≡ swap (now (cells .entry)) i (r % 256)) ⌝ }
 {
-    let sum = j + index(cells[i]) + index(k);
+    let sum = j + cell(cells, i) + index(k);
     swap_cells(cells, i, sum % 256);
     sum
 }
@@ -170,20 +175,21 @@ fn run_text(state: Rc4, text: &[u8], out: &mut [u8]) -> Rc4
     ensures { λ r. ⌜ (r ≡ after state (now (text .entry)))
         × (now (out .exit) ≡ written (run state (now (text .entry))) (now (out .entry))) ⌝ }
 {
-    let mut cells = state.cells;
+    let cells = state.cells;
+    let mut words = widen(cells);
     let i = index(state.i);
     let m = text.len() - text.len() % 8;
-    let j = run_eights(&mut cells, i, index(state.j), &text[..m], out);
-    let end = run_ones(&mut cells, i + m, j, &text[m..], &mut out[m..]);
+    let j = run_eights(&mut words, i, index(state.j), &text[..m], out);
+    let end = run_ones(&mut words, i + m, j, &text[m..], &mut out[m..]);
     Rc4 {
-        cells,
+        cells: narrow(words),
         i: octet(i + text.len()),
         j: octet(end),
     }
 }
 
 // A text of whole eights over a box in place; the next j, not wrapped mod 256. i is wrapped after each eight.
-fn run_eights(cells: &mut [u8; 256], i: usize, j: usize, text: &[u8], out: &mut [u8]) -> usize
+fn run_eights(cells: &mut [u32; 256], i: usize, j: usize, text: &[u8], out: &mut [u8]) -> usize
     requires { ⌜ Ready (now cells) i j (now text) (now out) × (length (now text) % 8 ≡ 0) ⌝ }
     ensures { λ r. ⌜ Finished (now (cells .entry)) i j (now (text .entry)) (now (out .entry)) (now (cells .exit)) r (now (out .exit)) ⌝ }
 {
@@ -202,7 +208,7 @@ fn run_eights(cells: &mut [u8; 256], i: usize, j: usize, text: &[u8], out: &mut 
 }
 
 // Any text, an octet at a time, over a box in place; the next j, not wrapped mod 256.
-fn run_ones(cells: &mut [u8; 256], i: usize, j: usize, text: &[u8], out: &mut [u8]) -> usize
+fn run_ones(cells: &mut [u32; 256], i: usize, j: usize, text: &[u8], out: &mut [u8]) -> usize
     requires { ⌜ Ready (now cells) i j (now text) (now out) ⌝ }
     ensures { λ r. ⌜ Finished (now (cells .entry)) i j (now (text .entry)) (now (out .entry)) (now (cells .exit)) r (now (out .exit)) ⌝ }
 {
@@ -224,11 +230,11 @@ struct Eight {
 }
 
 // Eight draws over a box in place: what a text of eight zeros gives.
-fn draw_eight(cells: &mut [u8; 256], i: usize, j: usize) -> Eight
-    requires { ⌜ (length (now cells) ≡ 256) × (i < 2 ^ 31) × (j < 2 ^ 31) ⌝ }
+fn draw_eight(cells: &mut [u32; 256], i: usize, j: usize) -> Eight
+    requires { ⌜ OctetCells (now cells) × (i < 2 ^ 31) × (j < 2 ^ 31) ⌝ }
     ensures { λ r. ⌜ (r .octets ≡ run (wrapped (now (cells .entry)) i j) (replicate 8 0))
         × (wrapped (now (cells .exit)) (i + 8) (r .j) ≡ after (wrapped (now (cells .entry)) i j) (replicate 8 0))
-        × (length (now (cells .exit)) ≡ 256) × (r .j ≤ j + 2040) ⌝ }
+        × OctetCells (now (cells .exit)) × (r .j ≤ j + 2040) ⌝ }
 {
     let mut octets = [0u8; 8];
     let mut next = j;
@@ -261,31 +267,73 @@ struct Advanced {
 }
 
 // One draw over a box in place. j is wrapped mod 256 only to index the box: that keeps the chain from draw to draw short.
-fn advance(cells: &mut [u8; 256], i: usize, j: usize) -> Advanced
-    requires { ⌜ (length (now cells) ≡ 256) × (i < 2 ^ 32) × (j < 2 ^ 32) ⌝ }
+fn advance(cells: &mut [u32; 256], i: usize, j: usize) -> Advanced
+    requires { ⌜ OctetCells (now cells) × (i < 2 ^ 32) × (j < 2 ^ 32) ⌝ }
     ensures { λ r. ⌜ (r .octet ≡ drawn (wrapped (now (cells .entry)) i j))
         × (wrapped (now (cells .exit)) (i + 1) (r .j) ≡ step (wrapped (now (cells .entry)) i j)) × (r .j ≤ j + 255) ⌝ }
 {
     let a = (i + 1) % 256;
-    let x = index(cells[a]);
+    let x = cell(cells, a);
     let sum = j + x;
     let b = sum % 256;
-    let y = index(cells[b]);
+    let y = cell(cells, b);
     swap_cells(cells, a, b);
     Advanced {
-        octet: cells[(y + x) % 256],
+        octet: octet(cell(cells, (y + x) % 256)),
         j: sum,
     }
 }
 
 // Two cells change places.
-fn swap_cells(cells: &mut [u8; 256], a: usize, b: usize)
+fn swap_cells(cells: &mut [u32; 256], a: usize, b: usize)
     requires { ⌜ (a < 256) × (b < 256) ⌝ }
     ensures { λ _. ⌜ now (cells .exit) ≡ swap (now (cells .entry)) a b ⌝ }
 {
     let x = cells[a];
     cells[a] = cells[b];
     cells[b] = x;
+}
+
+// A box of octets as one of words: a word is stored and loaded again faster than an octet.
+fn widen(cells: [u8; 256]) -> [u32; 256]
+    ensures { λ r. ⌜ (r ≡ cells) × OctetCells r ⌝ }
+{
+    let mut words = [0u32; 256];
+    let mut n = 0;
+    while n < 256 {
+        words[n] = word(cells[n]);
+        n += 1;
+    }
+    words
+}
+
+// A box of words as one of octets.
+fn narrow(words: [u32; 256]) -> [u8; 256]
+    requires { ⌜ OctetCells words ⌝ }
+    ensures { λ r. ⌜ r ≡ words ⌝ }
+{
+    let mut cells = [0u8; 256];
+    let mut n = 0;
+    while n < 256 {
+        cells[n] = octet(cell(&words, n));
+        n += 1;
+    }
+    cells
+}
+
+// An octet as a word.
+fn word(x: u8) -> u32
+    ensures { λ r. ⌜ (r ≡ x) × (r < 256) ⌝ }
+{
+    x as u32
+}
+
+// A cell as an index.
+fn cell(cells: &[u32; 256], k: usize) -> usize
+    requires { ⌜ OctetCells (now cells) × (k < 256) ⌝ }
+    ensures { λ r. ⌜ (r ≡ getD (now (cells .entry)) k 0) × (r < 256) ⌝ }
+{
+    cells[k] as usize
 }
 
 // An octet as an index.

@@ -20,8 +20,11 @@ loop-holds : tie.Need-loop-holds Inv-loop μ-loop
 unfolding below
 loop-holds c = (omega arith, refl, refl)
 
-octet-requires : tie.Need-octet-requires Inv-loop μ-loop
-octet-requires c κs = search needs
+cast-cells : tie.Need-cast-cells Inv-loop μ-loop
+cast-cells c = search needs
+
+mul-cells : tie.Need-mul-cells Inv-loop μ-loop
+mul-cells c = search needs
 
 array-write-cells : tie.Need-array-write-cells Inv-loop μ-loop
 array-write-cells c = search needs
@@ -34,8 +37,8 @@ loop-less c = search needs
 
 loop-again : tie.Need-loop-again Inv-loop μ-loop
 loop-again c =
-    let l = c .before .before .loop in
-    (omega arith, simp length-set (l .inv .1), below-more _ _ _ (l .inv .2) (c .octet .ensures) (l .inv .1) (omega arith))
+    let l = c .before .loop in
+    (omega arith, simp length-set (l .inv .1), below-more (l .cells) (l .n) (l .inv .2) (l .inv .1) (omega arith))
 
 returns : tie.Need-returns Inv-loop μ-loop
 returns c =
@@ -50,7 +53,8 @@ ascending-spec =
     Inv-loop
     μ-loop
     loop-holds
-    octet-requires
+    cast-cells
+    mul-cells
     array-write-cells
     add-n
     loop-less

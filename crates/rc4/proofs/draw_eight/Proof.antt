@@ -4,7 +4,7 @@ use Prim.Native.Nat.{_+_, _*_, _-_, _≤_}
 use native.Mathlib.Omega.{arith}
 use borrow.Author.Needs.{needs}
 use lib.ListN.{replicate}
-use Rattle.rc4.specs.Blocks.{wrapped}
+use Rattle.rc4.specs.InPlace.{wrapped}
 use Rattle.rc4.proofs.Runs.{Running, begun, more, onward, from-zero, filled, after-all}
 use Rattle.rc4.proofs.draw_eight.Statement.{statement}
 use Rattle.rc4.proofs.draw_eight.Tie as tie
@@ -45,7 +45,7 @@ returns c =
     let l = c .before .loop in
     let all : l .k ≡ 8 = omega (arith, l .inv .0 .within) in
     let h : 8 ≤ l .k = omega arith in
-    (filled (l .inv .0) h (omega arith), rw all at (after-all (l .inv .0) h), l .inv .0 .long, omega arith)
+    (filled (l .inv .0) h (omega arith), rw all at (after-all (l .inv .0) h), l .inv .0 .whole, omega arith)
 
 pub draw-eight-spec : {M : Type 1} → statement M
 draw-eight-spec =

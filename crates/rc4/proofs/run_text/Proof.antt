@@ -2,12 +2,15 @@
 use mathlib.Core.Path.{_≡_, sym}
 use Prim.Native.Nat.{_-_, _%_, _≤_}
 use native.Mathlib.Omega.{arith}
-use borrow.Author.Needs.{needs}
 use lib.ListN.{length}
+use borrow.Author.Needs.{needs}
 use Rattle.octets.specs.Octets.{longestText}
 use Rattle.rc4.proofs.Texts.{eights-length, part-rest-length, whole-text}
 use Rattle.rc4.proofs.run_text.Statement.{statement}
 use Rattle.rc4.proofs.run_text.Tie as tie
+
+widen-requires : tie.Need-widen-requires
+widen-requires c κs = search needs
 
 index-requires : tie.Need-index-requires
 index-requires c κs = search needs
@@ -19,12 +22,13 @@ index-requires-2 : tie.Need-index-requires-2
 index-requires-2 c κs = search needs
 
 slice-aggregate-run-eights : tie.Need-slice-aggregate-run-eights
-slice-aggregate-run-eights c = sym (eights-length (c .before .before .before .before .before .before .before .args .text .now))
+slice-aggregate-run-eights c = sym (eights-length (c .before .before .before .before .before .before .before .before .args .text .now))
 
 run-eights-requires : tie.Need-run-eights-requires
 run-eights-requires c κs =
-    let size = eights-length (c .before .before .before .before .before .before .before .before .args .text .now) in (
-      record { whole = search needs; i-near = search needs; j-near = search needs; within = omega (arith, size); room = omega (arith, size) },
+    let w = c .before .before .before .before .before in
+    let size = eights-length (w .before .before .before .before .args .text .now) in (
+      record { whole = w .widen .ensures .1; i-near = search needs; j-near = search needs; within = omega (arith, size); room = omega (arith, size) },
       omega (arith, size),
     )
 
@@ -51,20 +55,25 @@ part-run-ones-end-2 c = search needs
 
 run-ones-requires : tie.Need-run-ones-requires
 run-ones-requires c κs =
-    let a = c .before .before .before .before .before .before .before .before .before .before .before .before .before .before in
+    let e = c .before .before .before .before .before in
+    let j = e .before .before .before in
+    let i = j .before .before in
+    let a = i .before .before .before .before .before in
     let text = a .args .text .now in
     let m = length text - length text % 8 in
     let size = eights-length text in
-    let e = c .before .before .before .before .before .run-eights in
-    let out = e .last .1 .1 .1 .1 .0 in
-    let kept : length out ≡ length (a .args .out .now) = e .kept .1 .1 .1 .1 .0 in
-    let i = c .before .before .before .before .before .before .before .before .before .before .index .ensures .1 in
-    let j = c .before .before .before .before .before .before .before .before .index2 .ensures .1 in
+    let out = e .run-eights .last .1 .1 .1 .1 .0 in
+    let kept : length out ≡ length (a .args .out .now) = e .run-eights .kept .1 .1 .1 .1 .0 in
+    let hi = i .index .ensures .1 in
+    let hj = j .index2 .ensures .1 in
     let p : length text ≤ longestText = a .pre .0 in
     let r : length text ≤ length (a .args .out .now) = a .pre .1 in
     let rest = part-rest-length m text in
     let room = part-rest-length m out in
-    record { whole = e .ensures .whole; i-near = omega arith; j-near = omega (arith, e .ensures .near); within = omega arith; room = omega arith }
+    record { whole = e .run-eights .ensures .whole; i-near = omega arith; j-near = omega (arith, e .run-eights .ensures .near); within = omega arith; room = omega arith }
+
+narrow-requires : tie.Need-narrow-requires
+narrow-requires c κs = c .before .before .run-ones .ensures .whole
 
 add-octet : tie.Need-add-octet
 add-octet c = search needs
@@ -80,19 +89,25 @@ same-length c = search needs
 
 returns : tie.Need-returns
 returns c =
-    let a = c .before .before .before .before .before .before .before .before .before .before .before .before .before .before .before .before .before .before .before .args in
+    let o = c .before .before .before .before .before in
+    let e = o .before .before .before .before .before .before in
+    let j = e .before .before .before in
+    let i = j .before .before in
+    let w = i .before in
+    let a = w .before .before .before .before .args in
     let text = a .text .now in
     let m = length text - length text % 8 in
-    let i = c .before .before .before .before .before .before .before .before .before .before .before .before .before .before .before .index .ensures in
-    let j = c .before .before .before .before .before .before .before .before .before .before .before .before .before .index2 .ensures in
-    let e = c .before .before .before .before .before .before .before .before .before .before .run-eights .ensures in
-    let o = c .before .before .before .before .run-ones .ensures in
-    whole-text (a .state) text _ _ _ _ _ m _ _ _ _ _ _ (i .0) (j .0) (e .wrote) (e .stepped) (o .wrote) (o .stepped) (c .before .octet .ensures) (c .octet2 .ensures) (i .1) (j .1) (omega arith)
+    let hi = i .index .ensures in
+    let hj = j .index2 .ensures in
+    let eights = e .run-eights .ensures in
+    let ones = o .run-ones .ensures in
+    whole-text (a .state) text _ _ _ _ m _ _ _ _ (w .widen .ensures .0) (hi .0) (hj .0) (eights .wrote) (eights .stepped) (ones .wrote) (ones .stepped) (c .before .before .narrow .ensures) (c .before .octet .ensures) (c .octet2 .ensures) (hi .1) (hj .1) (omega arith)
 
 pub run-text-spec : {M : Type 1} → statement M
 run-text-spec =
     tie.close
     (tie.spec
+    widen-requires
     index-requires
     sub-m
     index-requires-2
@@ -106,6 +121,7 @@ run-text-spec =
     part-run-ones-start-2
     part-run-ones-end-2
     run-ones-requires
+    narrow-requires
     add-octet
     octet-requires
     octet-requires-2

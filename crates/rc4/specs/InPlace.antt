@@ -3,7 +3,7 @@ use mathlib.Core.Path.{_≡_}
 use mathlib.Core.List.{List, [], _∷_}
 use Prim.Native.Nat.{ℕ, _+_, _*_, _%_, _^_, _<_, _≤_}
 use lib.Bits.{bitXor}
-use lib.ListN.{length}
+use lib.ListN.{length, getD}
 use Rattle.octets.specs.Octets.{written, longestText}
 use Rattle.rc4.specs.declared.Rc4.{Rc4}
 use Rattle.rc4.specs.Cipher.{box, run, after}
@@ -18,9 +18,14 @@ xors [] ys = []
 xors (x ∷ xs) [] = []
 xors (x ∷ xs) (y ∷ ys) = bitXor x y ∷ xors xs ys
 
+-- 256 cells, each of them an octet
+pub record OctetCells (cells : List ℕ) : Type 0 where
+  pub long : length cells ≡ 256
+  pub octets : (k : ℕ) → getD cells k 0 < 256
+
 -- what a loop over a text asks: a box, indices with room to be carried on, a text within its limit, a buffer with room for it
 pub record Ready (cells : List ℕ) (i j : ℕ) (text out : List ℕ) : Type 0 where
-  pub whole : length cells ≡ 256
+  pub whole : OctetCells cells
   pub i-near : i < 2 ^ 30
   pub j-near : j < 2 ^ 30
   pub within : length text ≤ longestText
@@ -30,5 +35,5 @@ pub record Ready (cells : List ℕ) (i j : ℕ) (text out : List ℕ) : Type 0 w
 pub record Finished (cells : List ℕ) (i j : ℕ) (text out cells′ : List ℕ) (j′ : ℕ) (out′ : List ℕ) : Type 0 where
   pub wrote : out′ ≡ written (run (wrapped cells i j) text) out
   pub stepped : wrapped cells′ (i + length text) j′ ≡ after (wrapped cells i j) text
-  pub whole : length cells′ ≡ 256
+  pub whole : OctetCells cells′
   pub near : j′ ≤ j + 255 * length text

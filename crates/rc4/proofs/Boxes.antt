@@ -1,0 +1,46 @@
+-- A box of octets as one of words, and back: cell by cell, each cell an octet.
+use mathlib.Core.Path.{_≡_, sym, _∙_}
+use mathlib.Core.List.{List, [], _∷_}
+use Prim.Native.Nat.{ℕ, zero, suc, _+_, _<_, _≤_}
+use native.Mathlib.Numerals.{add-one}
+use native.Mathlib.Omega.{arith}
+use lib.ListN.{length, getD, set, take, replicate, length-set}
+use lib.Seq.{take-suc, take-suc-set, take-all}
+use Rattle.rc4.specs.Cipher.{swap}
+use Rattle.rc4.specs.InPlace.{OctetCells}
+
+-- an octet stored leaves every cell an octet ..
+pub set-octets : (c : List ℕ) (a v : ℕ) → v < 256 → ((k : ℕ) → getD c k 0 < 256) → (k : ℕ) → getD (set c a v) k 0 < 256
+set-octets [] a v fits h k = h k
+set-octets (x ∷ xs) zero v fits h zero = fits
+set-octets (x ∷ xs) zero v fits h (suc k) = h (suc k)
+set-octets (x ∷ xs) (suc a) v fits h zero = h 0
+set-octets (x ∷ xs) (suc a) v fits h (suc k) = set-octets xs a v fits (λ n. h (suc n)) k
+
+-- .. and so does a swap
+pub swap-octets : (c : List ℕ) (a b : ℕ) → OctetCells c → OctetCells (swap c a b)
+swap-octets c a b w = record {
+  long = simp length-set (w .long);
+  octets = set-octets (set c a (getD c b 0)) b (getD c a 0) (w .octets a) (set-octets c a (getD c b 0) (w .octets b) (w .octets));
+}
+
+-- zeros are octets
+pub zeros-octets : (m k : ℕ) → getD (replicate m 0) k 0 < 256
+zeros-octets zero k = omega arith
+zeros-octets (suc m) zero = omega arith
+zeros-octets (suc m) (suc k) = zeros-octets m k
+
+-- a box whose first n cells are those of another, n counted on to the end
+pub record Copied (from to : List ℕ) (n : ℕ) : Type 0 where
+  pub within : n ≤ 256
+  pub long : length to ≡ 256
+  pub same : take n to ≡ take n from
+
+pub copied-more : (from to : List ℕ) (n v : ℕ) → Copied from to n → v ≡ getD from n 0 → length from ≡ 256 → n < 256 → Copied from (set to n v) (n + 1)
+copied-more from to n v c read long h =
+    let here : n < length to = omega (arith, c .long) in
+    let there : n < length from = omega arith in
+    record { within = omega arith; long = simp length-set (c .long); same = rw (add-one, take-suc-set to n v here, take-suc from n 0 there, c .same, read) }
+
+pub copied-all : (from to : List ℕ) (n : ℕ) → Copied from to n → length from ≡ 256 → 256 ≤ n → to ≡ from
+copied-all from to n c long h = sym (take-all n to (omega (arith, c .long))) ∙ c .same ∙ take-all n from (omega arith)
