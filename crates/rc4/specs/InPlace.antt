@@ -1,4 +1,4 @@
--- What the contracts of the loops over a box in place say beside RC4's own definitions.
+-- What the contracts of functions over a box in place, of words, say beside RC4's own definitions.
 use mathlib.Core.Path.{_≡_}
 use mathlib.Core.List.{List, [], _∷_}
 use Prim.Native.Nat.{ℕ, _+_, _*_, _%_, _^_, _<_, _≤_}

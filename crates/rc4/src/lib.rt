@@ -294,20 +294,24 @@ fn swap_cells(cells: &mut [u32; 256], a: usize, b: usize)
     cells[b] = x;
 }
 
-// A box of octets as one of words: a word is stored and loaded again faster than an octet.
+// A box of octets as one of words, which is faster: an octet that is stored and soon loaded again waits. Four cells in each turn.
 fn widen(cells: [u8; 256]) -> [u32; 256]
     ensures { λ r. ⌜ (r ≡ cells) × OctetCells r ⌝ }
 {
     let mut words = [0u32; 256];
     let mut n = 0;
     while n < 256 {
-        words[n] = word(cells[n]);
-        n += 1;
+        let mut k = 0;
+        while k < 4 {
+            words[n + k] = word(cells[n + k]);
+            k += 1;
+        }
+        n += 4;
     }
     words
 }
 
-// A box of words as one of octets.
+// A box of words as one of octets, four cells in each turn.
 fn narrow(words: [u32; 256]) -> [u8; 256]
     requires { ⌜ OctetCells words ⌝ }
     ensures { λ r. ⌜ r ≡ words ⌝ }
@@ -315,8 +319,12 @@ fn narrow(words: [u32; 256]) -> [u8; 256]
     let mut cells = [0u8; 256];
     let mut n = 0;
     while n < 256 {
-        cells[n] = octet(cell(&words, n));
-        n += 1;
+        let mut k = 0;
+        while k < 4 {
+            cells[n + k] = octet(cell(&words, n + k));
+            k += 1;
+        }
+        n += 4;
     }
     cells
 }
