@@ -121,7 +121,7 @@ static void get_octets(octets *o, size_t n)
 }
 
 /* Hands a case to the program and takes its answer. */
-static void ask(const test *t, answer *a)
+void give(const test *t, answer *a)
 {
     octet head[CASE_HEAD] = {(octet)t->call}, *at = head + 1;
     octet told[ANSWER_HEAD];
@@ -669,39 +669,39 @@ static void expect_open(const test *t, answer *a)
 }
 
 static const call calls[] = {
-    {"md4", MD4, make_one_text, expect_md4, ask},
-    {"sha1", SHA1, make_one_text, expect_sha1, ask},
-    {"sha256", SHA256, make_one_text, expect_sha256, ask},
-    {"hmac_sha256", HMAC_SHA256, make_hmac, expect_hmac, ask},
-    {"des::encrypt", DES, make_des, expect_des, ask},
-    {"Rc4::keyed", RC4_KEYED, make_keyed, expect_keyed, ask},
-    {"Rc4::run", RC4_RUN, make_run, expect_run, ask},
-    {"Rc4::draw", RC4_DRAW, make_state, expect_draw, ask},
-    {"password_hash", PASSWORD_HASH, make_one_password, expect_password_hash, ask},
-    {"hash_hash", HASH_HASH, make_hash, expect_hash_hash, ask},
-    {"challenge_hash", HASH_CHALLENGE, make_challenge_hash, expect_challenge_hash, ask},
-    {"challenge_response", CHALLENGE_RESPONSE, make_challenge_response, expect_challenge_response, ask},
-    {"read_challenge", READ_CHALLENGE, make_challenge, expect_read_challenge, ask},
-    {"read_response", READ_RESPONSE, make_response, expect_read_response, ask},
-    {"name", NAME, make_named, expect_name, ask},
-    {"write_challenge", WRITE_CHALLENGE, make_write_challenge, expect_write_challenge, ask},
-    {"write_response", WRITE_RESPONSE, make_write_response, expect_write_response, ask},
-    {"ccp::read", READ_OPTION, make_one_option, expect_read_option, ask},
-    {"ccp::write", WRITE_OPTION, make_write_option, expect_write_option, ask},
-    {"ccp::only", ONLY, make_strength, expect_only, ask},
-    {"master_key", MASTER_KEY, make_master_key, expect_master_key, ask},
-    {"start_key", START_KEY, make_start_key, expect_start_key, ask},
-    {"new_key", NEW_KEY, make_two_keys, expect_new_key, ask},
-    {"initial_session_key", INITIAL_SESSION_KEY, make_two_keys, expect_initial_session_key, ask},
-    {"reduce", REDUCE, make_two_keys, expect_reduce, ask},
-    {"key_change", KEY_CHANGE, make_two_keys, expect_key_change, ask},
-    {"key_changes", KEY_CHANGES, make_key_changes, expect_key_changes, ask},
-    {"base_key", MAKE_BASE_KEY, make_base_key, expect_base_key, ask},
-    {"placed_key_changes", PLACED_KEY_CHANGES, make_placed, expect_placed, ask},
-    {"key_length", KEY_LENGTH, make_strength, expect_key_length, ask},
-    {"Link::new", NEW_LINK, make_new_link, expect_new_link, ask},
-    {"Link::seal", SEAL, make_seal, expect_seal, ask},
-    {"Link::open", OPEN, make_open, expect_open, ask},
+    {"md4", MD4, make_one_text, expect_md4},
+    {"sha1", SHA1, make_one_text, expect_sha1},
+    {"sha256", SHA256, make_one_text, expect_sha256},
+    {"hmac_sha256", HMAC_SHA256, make_hmac, expect_hmac},
+    {"des::encrypt", DES, make_des, expect_des},
+    {"Rc4::keyed", RC4_KEYED, make_keyed, expect_keyed},
+    {"Rc4::run", RC4_RUN, make_run, expect_run},
+    {"Rc4::draw", RC4_DRAW, make_state, expect_draw},
+    {"password_hash", PASSWORD_HASH, make_one_password, expect_password_hash},
+    {"hash_hash", HASH_HASH, make_hash, expect_hash_hash},
+    {"challenge_hash", HASH_CHALLENGE, make_challenge_hash, expect_challenge_hash},
+    {"challenge_response", CHALLENGE_RESPONSE, make_challenge_response, expect_challenge_response},
+    {"read_challenge", READ_CHALLENGE, make_challenge, expect_read_challenge},
+    {"read_response", READ_RESPONSE, make_response, expect_read_response},
+    {"name", NAME, make_named, expect_name},
+    {"write_challenge", WRITE_CHALLENGE, make_write_challenge, expect_write_challenge},
+    {"write_response", WRITE_RESPONSE, make_write_response, expect_write_response},
+    {"ccp::read", READ_OPTION, make_one_option, expect_read_option},
+    {"ccp::write", WRITE_OPTION, make_write_option, expect_write_option},
+    {"ccp::only", ONLY, make_strength, expect_only},
+    {"master_key", MASTER_KEY, make_master_key, expect_master_key},
+    {"start_key", START_KEY, make_start_key, expect_start_key},
+    {"new_key", NEW_KEY, make_two_keys, expect_new_key},
+    {"initial_session_key", INITIAL_SESSION_KEY, make_two_keys, expect_initial_session_key},
+    {"reduce", REDUCE, make_two_keys, expect_reduce},
+    {"key_change", KEY_CHANGE, make_two_keys, expect_key_change},
+    {"key_changes", KEY_CHANGES, make_key_changes, expect_key_changes},
+    {"base_key", MAKE_BASE_KEY, make_base_key, expect_base_key},
+    {"placed_key_changes", PLACED_KEY_CHANGES, make_placed, expect_placed},
+    {"key_length", KEY_LENGTH, make_strength, expect_key_length},
+    {"Link::new", NEW_LINK, make_new_link, expect_new_link},
+    {"Link::seal", SEAL, make_seal, expect_seal},
+    {"Link::open", OPEN, make_open, expect_open},
 };
 
 /* Compares every call. */

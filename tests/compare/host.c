@@ -1,6 +1,7 @@
 /* The large comparison of the calls that a C host makes: cases from a seed, answered by the oracle and by the library through
    include/udukemb.h; then whole runs of a link, with losses, repeats and damage between sender and receiver (demand 3).
    Arguments: the seed, and how many cases for each call. */
+#include "guard.h"
 #include "links.h"
 #include "udukemb.h"
 
@@ -9,11 +10,9 @@
 
 enum { SHORT_RUN = 50, LONG_RUN = 3 * 4096, PLACED_RUN = 24000, PERIOD = 8000, MOST_LOST = 4094 };
 
-/* An input as two arguments: a part of length 0 has a null pointer. */
-#define IN(k) (t->in[k].n > 0 ? t->in[k].at : NULL), t->in[k].n
-
-/* A lent buffer as two arguments. */
-#define LENT_AT(k) (a->lent[k].n > 0 ? a->lent[k].at : NULL), a->lent[k].n
+/* An input, and a lent buffer, as two arguments. */
+#define IN(k) l->in[k], t->in[k].n
+#define OUT(k) l->lent[k], t->lent[k].n
 
 /* Writes a result's octets into the first lent buffer, where the number is 0 and there is room: "2" comes last. */
 static void hand_over(answer *a, int number, const octet *at, size_t n)
@@ -59,9 +58,9 @@ static void expect_nt_response(const test *t, answer *a)
 }
 
 /* The same by the library. */
-static void give_nt_response(const test *t, answer *a)
+static void give_nt_response(const test *t, const loan *l, answer *a)
 {
-    a->number = udukemb_nt_response(IN(0), IN(1), IN(2), IN(3), LENT_AT(0));
+    a->number = udukemb_nt_response(IN(0), IN(1), IN(2), IN(3), OUT(0));
 }
 
 /* A login and what was received. */
@@ -91,7 +90,7 @@ static void gave_check(answer *a, struct udukemb_check check)
 }
 
 /* The same by the library. */
-static void give_check_response(const test *t, answer *a)
+static void give_check_response(const test *t, const loan *l, answer *a)
 {
     gave_check(a, udukemb_check_response(IN(0), IN(1), IN(2), IN(3), IN(4)));
 }
@@ -122,9 +121,9 @@ static void expect_authenticator_string(const test *t, answer *a)
 }
 
 /* The same by the library. */
-static void give_authenticator_string(const test *t, answer *a)
+static void give_authenticator_string(const test *t, const loan *l, answer *a)
 {
-    a->number = udukemb_authenticator_string(IN(0), IN(1), IN(2), IN(3), IN(4), LENT_AT(0));
+    a->number = udukemb_authenticator_string(IN(0), IN(1), IN(2), IN(3), IN(4), OUT(0));
 }
 
 /* A proof and what was received. */
@@ -147,7 +146,7 @@ static void expect_check_authenticator(const test *t, answer *a)
 }
 
 /* The same by the library. */
-static void give_check_authenticator(const test *t, answer *a)
+static void give_check_authenticator(const test *t, const loan *l, answer *a)
 {
     gave_check(a, udukemb_check_authenticator(IN(0), IN(1), IN(2), IN(3), IN(4), IN(5)));
 }
@@ -187,9 +186,9 @@ static void expect_start_key(const test *t, answer *a)
 }
 
 /* The same by the library. */
-static void give_start_key(const test *t, answer *a)
+static void give_start_key(const test *t, const loan *l, answer *a)
 {
-    a->number = udukemb_start_key((uint8_t)t->x, t->y == 1, t->z == 1, IN(0), IN(1), LENT_AT(0));
+    a->number = udukemb_start_key((uint8_t)t->x, t->y == 1, t->z == 1, IN(0), IN(1), OUT(0));
 }
 
 /* A role, a send and a receive start key, and room. */
@@ -210,9 +209,9 @@ static void expect_base_key(const test *t, answer *a)
 }
 
 /* The same by the library. */
-static void give_base_key(const test *t, answer *a)
+static void give_base_key(const test *t, const loan *l, answer *a)
 {
-    a->number = udukemb_base_key(t->y == 1, IN(0), IN(1), LENT_AT(0));
+    a->number = udukemb_base_key(t->y == 1, IN(0), IN(1), OUT(0));
 }
 
 /* Key material, mostly of about 32 octets, and room. */
@@ -234,9 +233,9 @@ static void expect_binding_key(const test *t, answer *a)
 }
 
 /* The same by the library. */
-static void give_binding_key(const test *t, answer *a)
+static void give_binding_key(const test *t, const loan *l, answer *a)
 {
-    a->number = udukemb_binding_key(IN(0), LENT_AT(0));
+    a->number = udukemb_binding_key(IN(0), OUT(0));
 }
 
 /* A request, a set of allowed strengths and room. */
@@ -265,9 +264,9 @@ static void expect_option_reply(const test *t, answer *a)
 }
 
 /* The same by the library. */
-static void give_option_reply(const test *t, answer *a)
+static void give_option_reply(const test *t, const loan *l, answer *a)
 {
-    struct udukemb_reply r = udukemb_option_reply(IN(0), t->x & 1, t->x >> 1 & 1, t->x >> 2 & 1, LENT_AT(0));
+    struct udukemb_reply r = udukemb_option_reply(IN(0), t->x & 1, t->x >> 1 & 1, t->x >> 2 & 1, OUT(0));
 
     replied(a, r.answer, r.accept, r.bits);
 }
@@ -287,9 +286,9 @@ static void expect_new_link(const test *t, answer *a)
 }
 
 /* The same by the library. */
-static void give_new_link(const test *t, answer *a)
+static void give_new_link(const test *t, const loan *l, answer *a)
 {
-    a->number = udukemb_new_link((uint8_t)t->x, IN(0), LENT_AT(0));
+    a->number = udukemb_new_link((uint8_t)t->x, IN(0), OUT(0));
 }
 
 /* Seal: the record is the first lent buffer, the packet goes into the second. */
@@ -309,9 +308,9 @@ static void expect_seal(const test *t, answer *a)
 }
 
 /* The same by the library. */
-static void give_seal(const test *t, answer *a)
+static void give_seal(const test *t, const loan *l, answer *a)
 {
-    a->number = udukemb_seal(LENT_AT(0), IN(0), LENT_AT(1));
+    a->number = udukemb_seal(OUT(0), IN(0), OUT(1));
 }
 
 /* Open: the record is the first lent buffer, the plain packet goes into the second. */
@@ -341,29 +340,53 @@ static void expect_open(const test *t, answer *a)
 }
 
 /* The same by the library. */
-static void give_open(const test *t, answer *a)
+static void give_open(const test *t, const loan *l, answer *a)
 {
-    struct udukemb_opened o = udukemb_open(LENT_AT(0), IN(0), LENT_AT(1));
+    struct udukemb_opened o = udukemb_open(OUT(0), IN(0), OUT(1));
 
     gave_opened(a, o.answer, o.changes);
 }
 
+enum { CHECK_RESPONSE, RESPONSE, STRING, CHECK_AUTHENTICATOR, START_KEY, MAKE_BASE_KEY, MAKE_BINDING_KEY, OPTION_REPLY, NEW_LINK, SEAL, OPEN };
+
 static const call calls[] = {
-    {"udukemb_check_response", 0, make_check_response, expect_check_response, give_check_response},
-    {"udukemb_nt_response", 0, make_login, expect_nt_response, give_nt_response},
-    {"udukemb_authenticator_string", 0, make_proof, expect_authenticator_string, give_authenticator_string},
-    {"udukemb_check_authenticator", 0, make_check_authenticator, expect_check_authenticator, give_check_authenticator},
-    {"udukemb_start_key", 0, make_start_key, expect_start_key, give_start_key},
-    {"udukemb_base_key", 0, make_base_key, expect_base_key, give_base_key},
-    {"udukemb_binding_key", 0, make_binding_key, expect_binding_key, give_binding_key},
-    {"udukemb_option_reply", 0, make_option_reply, expect_option_reply, give_option_reply},
-    {"udukemb_new_link", 0, make_new_link, expect_new_link, give_new_link},
-    {"udukemb_seal", 0, make_seal, expect_seal, give_seal},
-    {"udukemb_open", 0, make_open, expect_open, give_open},
+    {"udukemb_check_response", CHECK_RESPONSE, make_check_response, expect_check_response},
+    {"udukemb_nt_response", RESPONSE, make_login, expect_nt_response},
+    {"udukemb_authenticator_string", STRING, make_proof, expect_authenticator_string},
+    {"udukemb_check_authenticator", CHECK_AUTHENTICATOR, make_check_authenticator, expect_check_authenticator},
+    {"udukemb_start_key", START_KEY, make_start_key, expect_start_key},
+    {"udukemb_base_key", MAKE_BASE_KEY, make_base_key, expect_base_key},
+    {"udukemb_binding_key", MAKE_BINDING_KEY, make_binding_key, expect_binding_key},
+    {"udukemb_option_reply", OPTION_REPLY, make_option_reply, expect_option_reply},
+    {"udukemb_new_link", NEW_LINK, make_new_link, expect_new_link},
+    {"udukemb_seal", SEAL, make_seal, expect_seal},
+    {"udukemb_open", OPEN, make_open, expect_open},
 };
 
-static const call seal_in_run = {"udukemb_seal in a run", 0, make_seal, expect_seal, give_seal};
-static const call open_in_run = {"udukemb_open in a run", 0, make_open, expect_open, give_open};
+static const call seal_in_run = {"udukemb_seal in a run", SEAL, make_seal, expect_seal};
+static const call open_in_run = {"udukemb_open in a run", OPEN, make_open, expect_open};
+
+/* The library's answer to a case whose parts are lent between guards. */
+void give(const test *t, answer *a)
+{
+    static void (*const gives[])(const test *t, const loan *l, answer *a) = {
+        [CHECK_RESPONSE] = give_check_response,
+        [RESPONSE] = give_nt_response,
+        [STRING] = give_authenticator_string,
+        [CHECK_AUTHENTICATOR] = give_check_authenticator,
+        [START_KEY] = give_start_key,
+        [MAKE_BASE_KEY] = give_base_key,
+        [MAKE_BINDING_KEY] = give_binding_key,
+        [OPTION_REPLY] = give_option_reply,
+        [NEW_LINK] = give_new_link,
+        [SEAL] = give_seal,
+        [OPEN] = give_open,
+    };
+    loan l = lend_guarded(t);
+
+    gives[t->call](t, &l, a);
+    take_back(t, a);
+}
 
 /* A run of a link: both ends' records, the packet sealed last with its plain packet and the record it leaves, packets lost since the
    last arrival, and what was compared. */
@@ -530,6 +553,7 @@ int main(int count, char **words)
     if (count != 3)
         return 2;
     read_arguments(count, words, &seed, &cases);
+    guard();
     total = compare_calls(calls, sizeof calls / sizeof calls[0], seed, cases);
     total += compare_runs(seed, cases);
     printf("%lu calls of the C host, all equal\n", total);

@@ -83,7 +83,7 @@ void damage_record(octets *record)
         set_count(record, one_in(2) ? COUNTS - 1 + below(3) : below(65536));
         break;
     case 4:
-        record->n = one_in(2) ? below(80) : one_in(2) ? RECORD_OCTETS - 1 : RECORD_OCTETS + 1;
+        record->n = one_in(3) ? below(80) : one_in(3) ? 0 : one_in(2) ? RECORD_OCTETS - 1 : RECORD_OCTETS + 1;
         break;
     default:
         fill(record, RECORD_OCTETS);

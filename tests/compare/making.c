@@ -188,17 +188,14 @@ static void print_answer(const char *label, const answer *a)
         print("lent", k, &a->lent[k]);
 }
 
-/* Prints a case on which both differ, and ends the program. */
-static void differ(const call *c, const test *t, unsigned long seed, unsigned long k, const answer *expected, const answer *given)
+/* Prints a case. */
+void print_case(const test *t, const char *what)
 {
-    printf("%s: case %lu of seed %lu differs\nnumbers %u %u %u\n", c->name, k, seed, t->x, t->y, t->z);
+    printf("%s: case %lu of seed %lu: %s\nnumbers %u %u %u\n", t->name, t->number, t->seed, what, t->x, t->y, t->z);
     for (int i = 0; i < INPUTS; i++)
         print("input", i, &t->in[i]);
     for (int i = 0; i < LENT; i++)
         print("lent", i, &t->lent[i]);
-    print_answer("expected", expected);
-    print_answer("given", given);
-    exit(1);
 }
 
 /* An answer before its call: nothing in it, and the buffers as they are lent. */
@@ -229,13 +226,20 @@ static bool same_answer(const answer *a, const answer *b)
 /* Both answers to a case, compared. */
 void compare_case(const call *c, test *t, unsigned long seed, unsigned long k, answer *expected, answer *given)
 {
+    t->name = c->name;
     t->call = c->number;
+    t->seed = seed;
+    t->number = k;
     lend(t, expected);
     lend(t, given);
     c->expect(t, expected);
-    c->give(t, given);
-    if (!same_answer(expected, given))
-        differ(c, t, seed, k, expected, given);
+    give(t, given);
+    if (same_answer(expected, given))
+        return;
+    print_case(t, "the answers differ");
+    print_answer("expected", expected);
+    print_answer("given", given);
+    exit(1);
 }
 
 /* Empties a case. */

@@ -14,9 +14,11 @@ typedef struct {
     octet at[MOST];
 } octets;
 
-/* A case: its call's number, three numbers, the inputs, and the lent buffers at entry. */
+/* A case: the call's name and number, the case's seed and number, three numbers, the inputs, and the lent buffers at entry. */
 typedef struct {
+    const char *name;
     int call;
+    unsigned long seed, number;
     unsigned x, y, z;
     octets in[INPUTS];
     octets lent[LENT];
@@ -29,20 +31,25 @@ typedef struct {
     octets lent[LENT];
 } answer;
 
-/* A call: how its cases are made, what the oracle expects, and what the library gives. */
+/* A call: its number in the program that has it answered, how its cases are made, and what the oracle expects. */
 typedef struct {
     const char *name;
-    int number; /* of the call, for the program that reads cases */
+    int number;
     void (*make)(test *t);
     void (*expect)(const test *t, answer *a);
-    void (*give)(const test *t, answer *a);
 } call;
+
+/* What the library gives; each program has its own way to it. */
+void give(const test *t, answer *a);
 
 /* Runs cases of calls; ends the program at the first difference, having printed it. Gives how many were run. */
 unsigned long compare_calls(const call *calls, size_t count, unsigned long seed, unsigned long cases);
 
 /* One case of a call, number k of a seed: answered twice and compared. */
 void compare_case(const call *c, test *t, unsigned long seed, unsigned long k, answer *expected, answer *given);
+
+/* Prints a case, and what is wrong with it. */
+void print_case(const test *t, const char *what);
 
 /* Starts the numbers anew from a seed and a stream of it. */
 void seeded(unsigned long seed, unsigned long stream);
