@@ -1,10 +1,12 @@
 /*
  * A pump station logs in at the control room, both work out the link's keys, and readings go over a line that loses some of them.
- * It shows what a program in C does with the library, and what the library does with packets that it must not hand up.
+ * It shows what a program in C does with the library, what the library does with packets that it must not hand up, and what it
+ * cannot see. It compiles as C and as C++.
  */
 #include "udukemb.h"
 
 #include <stdio.h>
+#include <stdlib.h>
 #include <string.h>
 
 enum { BITS = 128, READINGS = 6, LOST_FROM = 2, LOST_TO = 3 };
@@ -35,6 +37,15 @@ static const char *meaning(uint8_t answer)
     return answer < sizeof words / sizeof words[0] ? words[answer] : "unknown";
 }
 
+/* Ends the program where a call that must go well is refused. */
+static void must(const char *what, uint8_t answer)
+{
+    if (answer == UDUKEMB_DONE)
+        return;
+    printf("%s: refused with %u, %s\n", what, answer, meaning(answer));
+    exit(EXIT_FAILURE);
+}
+
 /* Prints octets in hexadecimal behind a label. */
 static void show(const char *label, const uint8_t *octets, size_t n)
 {
@@ -44,32 +55,48 @@ static void show(const char *label, const uint8_t *octets, size_t n)
     printf("\n");
 }
 
+/* Prints a check's yes or no. */
+static void show_check(const char *label, struct udukemb_check check)
+{
+    must(label, check.answer);
+    printf("  %s: %s\n", label, check.yes ? "yes" : "no");
+}
+
 /* Step 1: the station proves that it knows the password, and the control room proves it in turn. */
 static void login(uint8_t response[UDUKEMB_NT_RESPONSE])
 {
     uint8_t string[UDUKEMB_AUTHENTICATOR_STRING];
-    struct udukemb_check check;
 
     printf("1. The station logs in as \"User\"\n");
-    udukemb_nt_response(control_room_challenge, sizeof control_room_challenge, station_challenge, sizeof station_challenge, user,
-                        sizeof user, password, sizeof password, response, UDUKEMB_NT_RESPONSE);
+    must("the response",
+         udukemb_nt_response(control_room_challenge, sizeof control_room_challenge, station_challenge, sizeof station_challenge,
+                             user, sizeof user, password, sizeof password, response, UDUKEMB_NT_RESPONSE));
     show("the station's response", response, UDUKEMB_NT_RESPONSE);
-    check = udukemb_check_response(control_room_challenge, sizeof control_room_challenge, station_challenge,
-                                   sizeof station_challenge, user, sizeof user, password, sizeof password, response,
-                                   UDUKEMB_NT_RESPONSE);
-    printf("  the control room checks it: %s\n", check.yes ? "yes" : "no");
-    check = udukemb_check_response(control_room_challenge, sizeof control_room_challenge, station_challenge,
-                                   sizeof station_challenge, user, sizeof user, wrong_password, sizeof wrong_password, response,
-                                   UDUKEMB_NT_RESPONSE);
-    printf("  the same response, had the password another last letter: %s\n", check.yes ? "yes" : "no");
-    udukemb_authenticator_string(password, sizeof password, response, UDUKEMB_NT_RESPONSE, station_challenge,
-                                 sizeof station_challenge, control_room_challenge, sizeof control_room_challenge, user,
-                                 sizeof user, string, sizeof string);
+    show_check("the control room checks it",
+               udukemb_check_response(control_room_challenge, sizeof control_room_challenge, station_challenge,
+                                      sizeof station_challenge, user, sizeof user, password, sizeof password, response,
+                                      UDUKEMB_NT_RESPONSE));
+    show_check("the same response, had the password another last letter",
+               udukemb_check_response(control_room_challenge, sizeof control_room_challenge, station_challenge,
+                                      sizeof station_challenge, user, sizeof user, wrong_password, sizeof wrong_password,
+                                      response, UDUKEMB_NT_RESPONSE));
+    must("the authenticator string",
+         udukemb_authenticator_string(password, sizeof password, response, UDUKEMB_NT_RESPONSE, station_challenge,
+                                      sizeof station_challenge, control_room_challenge, sizeof control_room_challenge, user,
+                                      sizeof user, string, sizeof string));
     printf("  the control room answers    %.*s\n", (int)sizeof string, (const char *)string);
-    check = udukemb_check_authenticator(password, sizeof password, response, UDUKEMB_NT_RESPONSE, station_challenge,
-                                        sizeof station_challenge, control_room_challenge, sizeof control_room_challenge, user,
-                                        sizeof user, string, sizeof string);
-    printf("  the station checks it: %s\n\n", check.yes ? "yes" : "no");
+    show_check("the station checks it",
+               udukemb_check_authenticator(password, sizeof password, response, UDUKEMB_NT_RESPONSE, station_challenge,
+                                           sizeof station_challenge, control_room_challenge, sizeof control_room_challenge,
+                                           user, sizeof user, string, sizeof string));
+    printf("\n");
+}
+
+/* A start key of the login: 16 octets. */
+static void make_start_key(bool server, bool send, const uint8_t response[UDUKEMB_NT_RESPONSE], uint8_t key[UDUKEMB_START_KEY_128])
+{
+    must("a start key", udukemb_start_key(BITS, server, send, password, sizeof password, response, UDUKEMB_NT_RESPONSE, key,
+                                          UDUKEMB_START_KEY_128));
 }
 
 /* Step 2: both ends agree on a strength, and each works out the same start key. */
@@ -81,15 +108,16 @@ static void make_links(const uint8_t response[UDUKEMB_NT_RESPONSE], uint8_t send
     struct udukemb_reply picked = udukemb_option_reply(request, sizeof request, true, true, true, reply, sizeof reply);
 
     printf("2. Both ends make the keys of the link\n");
+    must("the option", picked.answer);
     show("the station offers", request, sizeof request);
     show(picked.accept ? "the control room accepts" : "the control room asks for", reply, sizeof reply);
     printf("  that is %u bits\n", picked.bits);
-    udukemb_start_key(BITS, false, true, password, sizeof password, response, UDUKEMB_NT_RESPONSE, sent, sizeof sent);
-    udukemb_start_key(BITS, true, false, password, sizeof password, response, UDUKEMB_NT_RESPONSE, received, sizeof received);
+    make_start_key(false, true, response, sent);
+    make_start_key(true, false, response, received);
     show("the station sends with", sent, sizeof sent);
     show("the control room opens with", received, sizeof received);
-    udukemb_new_link(BITS, sent, sizeof sent, sender, UDUKEMB_LINK_RECORD);
-    udukemb_new_link(BITS, received, sizeof received, receiver, UDUKEMB_LINK_RECORD);
+    must("the station's link", udukemb_new_link(BITS, sent, sizeof sent, sender, UDUKEMB_LINK_RECORD));
+    must("the control room's link", udukemb_new_link(BITS, received, sizeof received, receiver, UDUKEMB_LINK_RECORD));
     printf("\n");
 }
 
@@ -106,7 +134,33 @@ static void open_packet(uint8_t receiver[UDUKEMB_LINK_RECORD], const char *what,
         printf("  %s: refused with %u, %s\n", what, opened.answer, meaning(opened.answer));
 }
 
-/* Step 3: readings are sealed, some are lost, and the rest are opened; what must not be handed up is refused in between. */
+/* Packet 4 first comes with a bit of its protocol number turned. */
+static void alter_protocol(uint8_t receiver[UDUKEMB_LINK_RECORD], uint8_t *packet, size_t n)
+{
+    packet[UDUKEMB_PACKET_FRONT] ^= 0x40;
+    open_packet(receiver, "packet 4 with a bit of its protocol number turned", packet, n);
+    packet[UDUKEMB_PACKET_FRONT] ^= 0x40;
+}
+
+/* Packet 5 comes again, and then with damage that its header shows. */
+static void repeat_and_damage(uint8_t receiver[UDUKEMB_LINK_RECORD], uint8_t *packet, size_t n)
+{
+    open_packet(receiver, "packet 5 once more", packet, n);
+    packet[2] &= 0x7F;
+    open_packet(receiver, "packet 5 without a flag", packet, n);
+    open_packet(receiver, "the first five octets of it", packet, 5);
+}
+
+/* Packet 6 comes with a bit of its payload turned, in place of what was sealed. */
+static void alter_payload(uint8_t receiver[UDUKEMB_LINK_RECORD], uint8_t *packet, size_t n)
+{
+    packet[n - 6] ^= 0x04;
+    open_packet(receiver, "packet 6 with a bit of its payload turned", packet, n);
+    printf("    the station sealed 3.16 m. MPPE has no check of its own, so the answer is 0: the library promises that a packet which\n"
+           "    arrives unaltered opens to what was sealed, and cannot see an altered payload; a check inside it, or TLS around it, can\n");
+}
+
+/* Step 3: readings are sealed, some are lost, and the rest are opened; other packets come in between. */
 static void run_line(uint8_t sender[UDUKEMB_LINK_RECORD], uint8_t receiver[UDUKEMB_LINK_RECORD])
 {
     printf("3. The station sends readings; the line loses numbers %d and %d\n", LOST_FROM, LOST_TO);
@@ -115,25 +169,21 @@ static void run_line(uint8_t sender[UDUKEMB_LINK_RECORD], uint8_t receiver[UDUKE
         size_t n = 2 + (size_t)snprintf((char *)plain + 2, sizeof plain - 2, "reading %d, level 3.%02d m", i, 10 + i);
         char label[32];
 
-        udukemb_seal(sender, UDUKEMB_LINK_RECORD, plain, n, packet, sizeof packet);
+        must("a packet", udukemb_seal(sender, UDUKEMB_LINK_RECORD, plain, n, packet, sizeof packet));
         n += UDUKEMB_PACKET_FRONT;
         if (i == 1)
             show("packet 1 on the line", packet, n);
         if (LOST_FROM <= i && i <= LOST_TO)
             continue;
-        if (i == LOST_TO + 1) {
-            packet[4] ^= 0x40;
-            open_packet(receiver, "packet 4 with a bit turned", packet, n);
-            packet[4] ^= 0x40;
-        }
+        if (i == 4)
+            alter_protocol(receiver, packet, n);
         snprintf(label, sizeof label, "packet %d", i);
-        open_packet(receiver, label, packet, n);
-        if (i == LOST_TO + 2) {
-            open_packet(receiver, "packet 5 once more", packet, n);
-            packet[2] &= 0x7F;
-            open_packet(receiver, "packet 5 without a flag", packet, n);
-            open_packet(receiver, "the first five octets of it", packet, 5);
-        }
+        if (i == 6)
+            alter_payload(receiver, packet, n);
+        else
+            open_packet(receiver, label, packet, n);
+        if (i == 5)
+            repeat_and_damage(receiver, packet, n);
     }
     printf("  station and control room now hold %s link record\n\n",
            memcmp(sender, receiver, UDUKEMB_LINK_RECORD) == 0 ? "the same" : "another");
@@ -146,11 +196,10 @@ static void bind_login(const uint8_t response[UDUKEMB_NT_RESPONSE])
 
     printf("4. The binding key of SSTP, from the same login\n");
     for (int server = 0; server <= 1; server++) {
-        udukemb_start_key(BITS, server, true, password, sizeof password, response, UDUKEMB_NT_RESPONSE, sent, sizeof sent);
-        udukemb_start_key(BITS, server, false, password, sizeof password, response, UDUKEMB_NT_RESPONSE, received,
-                          sizeof received);
-        udukemb_base_key(server, sent, sizeof sent, received, sizeof received, base, sizeof base);
-        udukemb_binding_key(base, sizeof base, key, sizeof key);
+        make_start_key(server, true, response, sent);
+        make_start_key(server, false, response, received);
+        must("the base key", udukemb_base_key(server, sent, sizeof sent, received, sizeof received, base, sizeof base));
+        must("the binding key", udukemb_binding_key(base, sizeof base, key, sizeof key));
         show(server ? "at the control room" : "at the station", key, sizeof key);
     }
 }

@@ -1,21 +1,61 @@
 /*
- * Udukemb for C: MS-CHAPv2 responses and checks, MPPE start keys, the MPPE option, a link's packets, and the SSTP binding key.
- * Link with the archive that `rt staticlib host` writes: target/staticlib/libhost.a.
+ * Udukemb for C: MS-CHAPv2 responses and checks, MPPE start keys, the MPPE option, a link's packets, and the SSTP
+ * binding key. Link with libudukemb.a, for x86-64 Linux; it needs nothing but memcpy and memset.
  *
- * All calls
- *   - take any octets of any length. A lent part is a pointer and its length in octets; a part of length 0 may have a null pointer.
- *   - keep nothing, allocate nothing and have no state of their own, so they may be called from any thread.
- *   - answer a number, 0 to 9. Each gives the first that applies, in the order that its comment names.
- *   - change no lent octet where they answer another number than 0. On 0 the result stands in front of the buffer lent for it,
- *     and the octets behind it stay as they were.
- * Parts lent for writing must not overlap each other or parts lent for reading. A bool must be true or false.
+ * Every call
+ *   - takes any octets of any length. A lent part is a pointer and its length in octets; a part of length 0 may have a
+ *     null pointer.
+ *   - keeps nothing, allocates nothing and has no state of its own, so any thread may make it. What is lent to it must
+ *     not be used elsewhere meanwhile.
+ *   - answers a number, 0 to 9: the first that applies, in the order in which they are named with it, or 0.
+ *   - changes no lent octet where it answers another number than 0. On 0 the result stands in front of the buffer lent
+ *     for it, and the octets behind it stay as they were.
+ *   - takes a bool that is true or false, and nothing else in its place.
+ *
+ * Nothing in place: what is lent for writing must not overlap anything else that is lent to the same call. No proof
+ * speaks of such a call. Seal a packet over its own plain packet, and today's archive answers 0 and leaves a packet
+ * that opens to other octets, or not at all.
+ *
+ * Time: `udukemb_open` makes as many key changes as the packet's count is ahead of the last one, 1 to 4,095, before it
+ * can see whether the protocol number inside is right. So a packet at the farthest distance costs some milliseconds
+ * even if it is then refused with 4, and whoever can put octets on the line can make every packet cost that much. How
+ * long a call takes is not proved, nor that its time keeps a secret.
+ *
+ * Secrets: what a call works with remains on the stack below its caller's frame, the password's hash, start keys and
+ * session keys among it. Nothing wipes it; where others may read that memory later, overwrite it.
+ *
+ * Stack: the most octets that a call takes below its caller's frame, with the arguments passed there and without what
+ * memcpy and memset take:
+ *       udukemb_authenticator_string    1800
+ *       udukemb_base_key                 200
+ *       udukemb_binding_key             1700
+ *       udukemb_check_authenticator     1800
+ *       udukemb_check_response          3100
+ *       udukemb_new_link                1400
+ *       udukemb_nt_response             3100
+ *       udukemb_open                    3100
+ *       udukemb_option_reply             200
+ *       udukemb_seal                    3000
+ *       udukemb_start_key               1400
  */
+
 #ifndef UDUKEMB_H
 #define UDUKEMB_H
 
 #include <stdbool.h>
 #include <stddef.h>
 #include <stdint.h>
+
+/* The version of this interface: a new major number may break a program, a new minor one adds to it. */
+#define UDUKEMB_VERSION_MAJOR 1
+#define UDUKEMB_VERSION_MINOR 0
+
+/* A call whose answer is not looked at is warned of, where the compiler can. */
+#if defined(__GNUC__)
+#define UDUKEMB_MUST_USE __attribute__((warn_unused_result))
+#else
+#define UDUKEMB_MUST_USE
+#endif
 
 #ifdef __cplusplus
 extern "C" {
@@ -37,9 +77,9 @@ enum {
 
 /* Lengths in octets. */
 enum {
-    UDUKEMB_LONGEST_PASSWORD = 512,   /* UTF-16, low octet first, so always even; no octet is a password too */
-    UDUKEMB_LONGEST_NAME = 256,       /* a user name without its domain; it may be empty */
-    UDUKEMB_CHALLENGE = 16,           /* of the authenticator or the peer */
+    UDUKEMB_LONGEST_PASSWORD = 512,    /* UTF-16, low octet first, so always even; no octet is a password too */
+    UDUKEMB_LONGEST_NAME = 256,        /* a user name without its domain; it may be empty */
+    UDUKEMB_CHALLENGE = 16,            /* of the authenticator or the peer */
     UDUKEMB_NT_RESPONSE = 24,
     UDUKEMB_AUTHENTICATOR_STRING = 42, /* "S=" and 40 hexadecimal digits in upper case, no 0 behind them */
     UDUKEMB_START_KEY_40 = 8,
@@ -47,12 +87,12 @@ enum {
     UDUKEMB_START_KEY_128 = 16,
     UDUKEMB_BASE_KEY = 32,
     UDUKEMB_BINDING_KEY = 32,
-    UDUKEMB_LONGEST_MATERIAL = 65535, /* key material of a binding key */
+    UDUKEMB_LONGEST_MATERIAL = 65535,  /* key material of a binding key */
     UDUKEMB_OPTION = 6,
     UDUKEMB_LINK_RECORD = 35,
-    UDUKEMB_SHORTEST_PLAIN = 2,       /* a plain packet: two protocol octets and the payload */
+    UDUKEMB_SHORTEST_PLAIN = 2,        /* a plain packet: two protocol octets and the payload */
     UDUKEMB_LONGEST_PLAIN = 1498,
-    UDUKEMB_PACKET_FRONT = 4,         /* a sealed packet is this much longer than its plain packet */
+    UDUKEMB_PACKET_FRONT = 4,          /* a sealed packet is this much longer than its plain packet */
     UDUKEMB_SHORTEST_PACKET = 6,
     UDUKEMB_LONGEST_PACKET = 1502
 };
@@ -76,112 +116,157 @@ struct udukemb_opened {
     uint16_t changes; /* the key changes made: one more than the packets lost just before this one */
 };
 
-/* A login. */
+/*
+ * A login. Mind the order of the challenges: as in RFC 2759, the two calls for the NT-Response take the authenticator's
+ * first, and the two for the authenticator string take the peer's first. Exchanged challenges are not noticed: both
+ * have 16 octets, and the answer is 0 with another result.
+ */
 
 /*
- * Whether the NT-Response `received` is the one that the password gives to both challenges. A difference is a no with answer 0.
+ * Whether the NT-Response `received` is the one that the password gives to both challenges. A difference is a no with
+ * answer 0.
  * Lengths: challenges 16; name 0 to 256; password 0 to 512, even; received 24.
- * Answers: 3 a length is outside its limits; 9 the name holds 0x5C.
+ * Answers: 3 size, a length is outside its limits; 9 domain, the name holds 0x5C.
  */
-struct udukemb_check udukemb_check_response(const uint8_t *authenticator, size_t authenticator_len, const uint8_t *peer,
-                                            size_t peer_len, const uint8_t *name, size_t name_len, const uint8_t *password,
-                                            size_t password_len, const uint8_t *received, size_t received_len);
+UDUKEMB_MUST_USE struct udukemb_check udukemb_check_response(
+    const uint8_t *authenticator_challenge, size_t authenticator_challenge_len,
+    const uint8_t *peer_challenge, size_t peer_challenge_len,
+    const uint8_t *name, size_t name_len,
+    const uint8_t *password, size_t password_len,
+    const uint8_t *received, size_t received_len);
 
 /*
  * The NT-Response of the password to both challenges, 24 octets into `out`.
  * Lengths: challenges 16; name 0 to 256; password 0 to 512, even.
- * Answers: 3 a length is outside its limits; 9 the name holds 0x5C; 2 `out` has fewer than 24 octets.
+ * Answers: 3 size, a length is outside its limits; 9 domain, the name holds 0x5C; 2 room, `out` has fewer than 24
+ * octets.
  */
-uint8_t udukemb_nt_response(const uint8_t *authenticator, size_t authenticator_len, const uint8_t *peer, size_t peer_len,
-                            const uint8_t *name, size_t name_len, const uint8_t *password, size_t password_len, uint8_t *out,
-                            size_t out_len);
+UDUKEMB_MUST_USE uint8_t udukemb_nt_response(
+    const uint8_t *authenticator_challenge, size_t authenticator_challenge_len,
+    const uint8_t *peer_challenge, size_t peer_challenge_len,
+    const uint8_t *name, size_t name_len,
+    const uint8_t *password, size_t password_len,
+    uint8_t *out, size_t out_len);
 
 /*
- * The string by which an authenticator proves to a peer that it knows the password, 42 octets into `out`.
+ * The string by which an authenticator proves to a peer that it knows the password, 42 octets into `out`. The peer's
+ * challenge comes first.
  * Lengths: password 0 to 512, even; response 24; challenges 16; name 0 to 256.
- * Answers: 3 a length is outside its limits; 9 the name holds 0x5C; 2 `out` has fewer than 42 octets.
+ * Answers: 3 size, a length is outside its limits; 9 domain, the name holds 0x5C; 2 room, `out` has fewer than 42
+ * octets.
  */
-uint8_t udukemb_authenticator_string(const uint8_t *password, size_t password_len, const uint8_t *response, size_t response_len,
-                                     const uint8_t *peer, size_t peer_len, const uint8_t *authenticator,
-                                     size_t authenticator_len, const uint8_t *name, size_t name_len, uint8_t *out,
-                                     size_t out_len);
+UDUKEMB_MUST_USE uint8_t udukemb_authenticator_string(
+    const uint8_t *password, size_t password_len,
+    const uint8_t *response, size_t response_len,
+    const uint8_t *peer_challenge, size_t peer_challenge_len,
+    const uint8_t *authenticator_challenge, size_t authenticator_challenge_len,
+    const uint8_t *name, size_t name_len,
+    uint8_t *out, size_t out_len);
 
 /*
  * Whether the authenticator string `received` is the one that the password gives. A difference is a no with answer 0.
+ * The peer's challenge comes first.
  * Lengths: password 0 to 512, even; response 24; challenges 16; name 0 to 256; received 42.
- * Answers: 3 a length is outside its limits; 9 the name holds 0x5C.
+ * Answers: 3 size, a length is outside its limits; 9 domain, the name holds 0x5C.
  */
-struct udukemb_check udukemb_check_authenticator(const uint8_t *password, size_t password_len, const uint8_t *response,
-                                                 size_t response_len, const uint8_t *peer, size_t peer_len,
-                                                 const uint8_t *authenticator, size_t authenticator_len, const uint8_t *name,
-                                                 size_t name_len, const uint8_t *received, size_t received_len);
+UDUKEMB_MUST_USE struct udukemb_check udukemb_check_authenticator(
+    const uint8_t *password, size_t password_len,
+    const uint8_t *response, size_t response_len,
+    const uint8_t *peer_challenge, size_t peer_challenge_len,
+    const uint8_t *authenticator_challenge, size_t authenticator_challenge_len,
+    const uint8_t *name, size_t name_len,
+    const uint8_t *received, size_t received_len);
 
 /*
- * The start key of a password and an NT-Response, for one direction at one end of the link: 16 octets into `out` at 128 bits,
- * 8 at 40 and 56. `server` is true at the server's end and false at the client's; `send` is true for what this end sends and
- * false for what it receives.
+ * The start key of a password and an NT-Response, for one direction at one end of the link: 16 octets into `out` at
+ * 128 bits, 8 at 40 and 56. `server` is true at the server's end and false at the client's; `send` is true for what
+ * this end sends and false for what it receives.
  * Lengths: password 0 to 512, even; response 24.
- * Answers: 8 `bits` is none of 40, 56 and 128; 3 a length is outside its limits; 2 `out` is shorter than the key.
+ * Answers: 8 strength, `bits` is none of 40, 56 and 128; 3 size, a length is outside its limits; 2 room, `out` is
+ * shorter than the key.
  */
-uint8_t udukemb_start_key(uint8_t bits, bool server, bool send, const uint8_t *password, size_t password_len,
-                          const uint8_t *response, size_t response_len, uint8_t *out, size_t out_len);
+UDUKEMB_MUST_USE uint8_t udukemb_start_key(
+    uint8_t bits, bool server, bool send,
+    const uint8_t *password, size_t password_len,
+    const uint8_t *response, size_t response_len,
+    uint8_t *out, size_t out_len);
 
 /*
  * The base key of an end's two start keys, 32 octets into `out`. Both ends get the same one. `server` as above.
  * Lengths: send and receive 16 each, the start keys of 128 bits.
- * Answers: 3 a length is another; 2 `out` has fewer than 32 octets.
+ * Answers: 3 size, a length is another; 2 room, `out` has fewer than 32 octets.
  */
-uint8_t udukemb_base_key(bool server, const uint8_t *send, size_t send_len, const uint8_t *receive, size_t receive_len,
-                         uint8_t *out, size_t out_len);
+UDUKEMB_MUST_USE uint8_t udukemb_base_key(
+    bool server,
+    const uint8_t *send, size_t send_len,
+    const uint8_t *receive, size_t receive_len,
+    uint8_t *out, size_t out_len);
 
 /*
- * The binding key of a base key or of other key material, 32 octets into `out`. Material of another length than 32 is cut to 32
- * octets, or has zeros put behind it.
+ * The binding key of a base key or of other key material, 32 octets into `out`. Material of another length than 32 is
+ * cut to 32 octets, or has zeros put behind it.
  * Lengths: material 0 to 65,535.
- * Answers: 3 the material is longer; 2 `out` has fewer than 32 octets.
+ * Answers: 3 size, the material is longer; 2 room, `out` has fewer than 32 octets.
  */
-uint8_t udukemb_binding_key(const uint8_t *material, size_t material_len, uint8_t *out, size_t out_len);
+UDUKEMB_MUST_USE uint8_t udukemb_binding_key(
+    const uint8_t *material, size_t material_len,
+    uint8_t *out, size_t out_len);
 
 /* The option and the link. */
 
 /*
- * The reply to a requested MPPE option: the strongest strength that is offered and allowed, in stateless mode. The reply's option
- * is written into `out`, six octets; it is an accept where the request is that option and no other bit, else a counter-offer.
- * `bits40`, `bits56` and `bits128` say which strengths are allowed.
- * Answers: 1 the option is not six octets of type 18 and length 6; 8 no strength is both offered and allowed; 2 `out` has fewer
- * than six octets.
+ * The reply to a requested MPPE option: the strongest strength that is offered and allowed, in stateless mode. The
+ * reply's option is written into `out`, six octets; it is an accept where the request is that option and no other bit,
+ * else a counter-offer. `bits40`, `bits56` and `bits128` say which strengths are allowed.
+ * Answers: 1 shape, the option is not six octets of type 18 and length 6; 8 strength, none is both offered and allowed;
+ * 2 room, `out` has fewer than six octets.
  */
-struct udukemb_reply udukemb_option_reply(const uint8_t *option, size_t option_len, bool bits40, bool bits56, bool bits128,
-                                          uint8_t *out, size_t out_len);
+UDUKEMB_MUST_USE struct udukemb_reply udukemb_option_reply(
+    const uint8_t *option, size_t option_len,
+    bool bits40, bool bits56, bool bits128,
+    uint8_t *out, size_t out_len);
 
 /*
- * The link record that both ends begin with, 35 octets into `link_record`: the strength in bits (1 octet), start key (16 places), session
- * key (16 places) and last count (2 octets, highest first). Keys of 8 octets have zeros in their last eight places. The record holds
- * the keys of the link, so keep it as secret as them.
- * A record serves one direction: the sender of that direction seals with it, the receiver opens with a record of the same start key.
+ * The link record that both ends begin with, 35 octets into `link_record`: the strength in bits (1 octet), start key
+ * (16 places), session key (16 places) and last count (2 octets, highest first). Keys of 8 octets have zeros in their
+ * last eight places. The record holds the keys of the link, so keep it as secret as them.
+ * A record serves one direction: the sender of that direction seals with it, the receiver opens with a record of the
+ * same start key.
  * Lengths: start 16 at 128 bits, 8 at 40 and 56.
- * Answers: 8 `bits` is none of 40, 56 and 128; 3 `start` has another length; 2 `link_record` has fewer than 35 octets.
+ * Answers: 8 strength, `bits` is none of 40, 56 and 128; 3 size, `start` has another length; 2 room, `link_record` has
+ * fewer than 35 octets.
  */
-uint8_t udukemb_new_link(uint8_t bits, const uint8_t *start, size_t start_len, uint8_t *link_record, size_t link_record_len);
+UDUKEMB_MUST_USE uint8_t udukemb_new_link(
+    uint8_t bits,
+    const uint8_t *start, size_t start_len,
+    uint8_t *link_record, size_t link_record_len);
 
 /*
  * Seals a plain packet into `out`, 4 octets more than it has, and writes the next record over `link_record`.
  * Lengths: record 35, exactly; plain 2 to 1,498.
- * Answers: 7 `link_record` is not 35 octets that hold a well formed record; 3 the plain packet's length is outside its limits; 4 its
- * protocol number is outside 0x0021 to 0x00FA; 2 `out` has fewer than plain_len + 4 octets.
+ * Answers: 7 record, `link_record` is not 35 octets that hold a well formed record; 3 size, the plain packet's length
+ * is outside its limits; 4 protocol, its number is outside 0x0021 to 0x00FA; 2 room, `out` has fewer than
+ * plain_len + 4 octets.
  */
-uint8_t udukemb_seal(uint8_t *link_record, size_t link_record_len, const uint8_t *plain, size_t plain_len, uint8_t *out, size_t out_len);
+UDUKEMB_MUST_USE uint8_t udukemb_seal(
+    uint8_t *link_record, size_t link_record_len,
+    const uint8_t *plain, size_t plain_len,
+    uint8_t *out, size_t out_len);
 
 /*
- * Opens a sealed packet into `out`, 4 octets fewer than it has, and writes the next record over `link_record`. MPPE has no check of its
- * own on the octets: a packet that was altered on the line may answer 0 and open to other octets than were sealed.
+ * Opens a sealed packet into `out`, 4 octets fewer than it has, and writes the next record over `link_record`.
+ * MPPE has no check of its own on the octets: a packet that was altered on the line may answer 0 and open to other
+ * octets than were sealed. What is promised is that an unaltered packet opens to what was sealed.
  * Lengths: record 35, exactly; packet 6 to 1,502.
- * Answers: 7 `link_record` is not 35 octets that hold a well formed record; 1 the packet's length is outside its limits, or it does not
- * begin with 00 FD; 5 bit A or D of its header is 0; 6 its count is the last one; 2 `out` has fewer than packet_len - 4 octets;
- * 4 the protocol number inside is outside 0x0021 to 0x00FA.
+ * Answers: 7 record, `link_record` is not 35 octets that hold a well formed record; 1 shape, the packet's length is
+ * outside its limits, or it does not begin with 00 FD; 5 flags, bit A or D of its header is 0; 6 repeat, its count is
+ * the last one; 2 room, `out` has fewer than packet_len - 4 octets; 4 protocol, the number inside is outside 0x0021 to
+ * 0x00FA.
  */
-struct udukemb_opened udukemb_open(uint8_t *link_record, size_t link_record_len, const uint8_t *packet, size_t packet_len, uint8_t *out,
-                                   size_t out_len);
+UDUKEMB_MUST_USE struct udukemb_opened udukemb_open(
+    uint8_t *link_record, size_t link_record_len,
+    const uint8_t *packet, size_t packet_len,
+    uint8_t *out, size_t out_len);
 
 #ifdef __cplusplus
 }
