@@ -1,15 +1,23 @@
-# make demo: a login, its keys and a link, in C over the library.   make test: every proof and every test.
-# make fuzz: the library against an independent program for SECONDS, with fresh cases.   make bench: its speed beside others'.
-.PHONY: demo test fuzz bench
+#: make demo       a station logs in, sends readings over a line that loses some, and the control room opens the rest
+#: make test       every proof and every test; the last line is the verdict, `N passed, 0 failed`
+#: make fuzz       the library against an independent program, with fresh cases, for SECONDS=60
+#: make bench      the library's speed beside plain C and OpenSSL, in one run
+#: make stack      the stack that each call takes
+#: make lib        the library for C, target/lib/libudukemb.a
+#: make install    the library, its header, manual page and pkg-config file below PREFIX=/usr/local; DESTDIR goes in front
+.PHONY: help demo test fuzz bench stack lib install
+.NOTPARALLEL:
 
 SECONDS = 60
+PREFIX = /usr/local
+C = gcc -std=c11 -O2 -Wall -Wextra -Werror
 
-# Builds the library for C of the crate $(1); the first time it is proved, which takes some minutes.
-library = mkdir -p target/bin && { rt staticlib $(1) >target/$(1).log 2>&1 || { cat target/$(1).log; exit 1; }; }
+help:
+	@sed -n 's/^#: //p' Makefile
 
-demo:
-	@$(call library,host)
-	@gcc -std=c11 -O2 -Wall -Wextra -Werror -Iinclude -o target/bin/demo demo/demo.c target/staticlib/libhost.a
+demo: lib
+	@mkdir -p target/bin
+	@$(C) -Iinclude -o target/bin/demo demo/demo.c target/lib/libudukemb.a
 	@target/bin/demo
 
 test:
@@ -20,9 +28,23 @@ fuzz:
 
 # Beside plain C as gcc builds it, and without gcc's vectoriser, which halves the speed of plain SHA-1.
 bench:
-	@$(call library,bench)
+	@tools/needs rt gcc openssl
+	@tools/prove library bench
+	@mkdir -p target/bin
 	@for flags in "-O2" "-O3 -fno-tree-vectorize"; do \
 	    gcc $$flags -Wall -Wextra -Werror -o target/bin/bench bench/bench.c bench/plain.c target/staticlib/libbench.a -lcrypto || exit 1; \
 	    printf '\nPlain C with gcc %s\n\n' "$$flags"; \
 	    target/bin/bench || exit 1; \
 	done
+
+stack: lib
+	@tools/stack target/lib/libudukemb.a include/udukemb.h
+
+lib:
+	@tools/needs rt gcc
+	@tools/prove library host
+	@mkdir -p target/lib
+	@cp target/staticlib/libhost.a target/lib/libudukemb.a
+
+install: lib
+	@tools/install "$(PREFIX)" "$(DESTDIR)"
