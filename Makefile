@@ -5,7 +5,7 @@
 #: make stack      the stack that each call takes
 #: make lib        the library for C, target/lib/libudukemb.a
 #: make install    the library, its header, manual page and pkg-config file below PREFIX=/usr/local; DESTDIR goes in front
-.PHONY: help demo test fuzz bench stack lib install
+.PHONY: help demo test fuzz bench stack lib install archive
 .NOTPARALLEL:
 
 SECONDS = 60
@@ -15,7 +15,7 @@ C = gcc -std=c11 -O2 -Wall -Wextra -Werror
 help:
 	@sed -n 's/^#: //p' Makefile
 
-demo: lib
+demo: archive
 	@mkdir -p target/bin
 	@$(C) -Iinclude -o target/bin/demo demo/demo.c target/lib/libudukemb.a
 	@target/bin/demo
@@ -37,14 +37,17 @@ bench:
 	    target/bin/bench || exit 1; \
 	done
 
-stack: lib
+stack: archive
 	@tools/stack target/lib/libudukemb.a include/udukemb.h
 
-lib:
+lib: archive
+	@echo "target/lib/libudukemb.a, for include/udukemb.h"
+
+archive:
 	@tools/needs rt gcc
 	@tools/prove library host
 	@mkdir -p target/lib
 	@cp target/staticlib/libhost.a target/lib/libudukemb.a
 
-install: lib
+install: archive
 	@tools/install "$(PREFIX)" "$(DESTDIR)"
