@@ -1,7 +1,7 @@
 /*
- * A pump station logs in at the control room, both work out the link's keys, and readings go over a line that loses some of them.
- * It shows what a program in C does with the library, what the library does with packets that it must not hand up, and what it
- * cannot see. It compiles as C and as C++.
+ * A pump station logs in at the control room, both work out the link's keys, and readings go over a line that loses some of
+ * them. It shows what a program in C does with the library, what the library does with packets that it must not hand up, and
+ * what it cannot see. It compiles as C and as C++.
  */
 #include "udukemb.h"
 
@@ -93,7 +93,8 @@ static void login(uint8_t response[UDUKEMB_NT_RESPONSE])
 }
 
 /* A start key of the login: 16 octets. */
-static void make_start_key(bool server, bool send, const uint8_t response[UDUKEMB_NT_RESPONSE], uint8_t key[UDUKEMB_START_KEY_128])
+static void make_start_key(bool server, bool send, const uint8_t response[UDUKEMB_NT_RESPONSE],
+                           uint8_t key[UDUKEMB_START_KEY_128])
 {
     must("a start key", udukemb_start_key(BITS, server, send, password, sizeof password, response, UDUKEMB_NT_RESPONSE, key,
                                           UDUKEMB_START_KEY_128));
@@ -156,8 +157,8 @@ static void alter_payload(uint8_t receiver[UDUKEMB_LINK_RECORD], uint8_t *packet
 {
     packet[n - 6] ^= 0x04;
     open_packet(receiver, "packet 6 with a bit of its payload turned", packet, n);
-    printf("    the station sealed 3.16 m. MPPE has no check of its own, so the answer is 0: the library promises that a packet which\n"
-           "    arrives unaltered opens to what was sealed, and cannot see an altered payload; a check inside it, or TLS around it, can\n");
+    printf("    3.16 m was sealed. MPPE has no check of its own, so an altered payload opens with 0; the library promises only that\n"
+           "    an unaltered packet opens to what was sealed. A check inside the payload, or TLS around the link, would tell.\n");
 }
 
 /* Step 3: readings are sealed, some are lost, and the rest are opened; other packets come in between. */
