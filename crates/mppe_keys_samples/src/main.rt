@@ -105,29 +105,12 @@ fn main() {
     derived(b"56 bits", Strength::Bits56, 8, master);
     derived(b"128 bits", Strength::Bits128, 16, master);
     reduced();
+    places();
     masters();
     starts();
-    lengths(
-        b"lengths at 40 bits",
-        Strength::Bits40,
-        &COUNTED[..7],
-        &COUNTED[..8],
-        &COUNTED[..9],
-    );
-    lengths(
-        b"lengths at 56 bits",
-        Strength::Bits56,
-        &COUNTED[..7],
-        &COUNTED[..8],
-        &COUNTED[..9],
-    );
-    lengths(
-        b"lengths at 128 bits",
-        Strength::Bits128,
-        &COUNTED[..15],
-        &COUNTED[..16],
-        &COUNTED[..17],
-    );
+    lengths(b"lengths at 40 bits", Strength::Bits40, 8);
+    lengths(b"lengths at 56 bits", Strength::Bits56, 8);
+    lengths(b"lengths at 128 bits", Strength::Bits128, 16);
 }
 
 // Prints a key, and hands back its octets.
@@ -149,7 +132,7 @@ fn derived(label: &[u8], strength: Strength, n: usize, master: [u8; 16])
         Direction::Send,
         &master,
     );
-    session(strength, &sent[..n], n);
+    session(strength, &sent[0..n], n);
     let received = start(
         b"server receives",
         strength,
@@ -157,7 +140,7 @@ fn derived(label: &[u8], strength: Strength, n: usize, master: [u8; 16])
         Direction::Receive,
         &master,
     );
-    session(strength, &received[..n], n);
+    session(strength, &received[0..n], n);
     start(
         b"client sends",
         strength,
@@ -196,7 +179,7 @@ fn session(strength: Strength, start: &[u8], n: usize)
         b"initial session key",
         mppe_keys::initial_session_key(strength, start),
     );
-    changes(strength, start, &first[..n]);
+    changes(strength, start, &first[0..n]);
 }
 
 // The session keys from the first one on, and the sample's message under that one.
@@ -230,7 +213,7 @@ fn changed(strength: Strength, start: &[u8], session: &[u8], n: usize) {
     report::numbered(b"key changes", n, key.answer, &octets);
 }
 
-// Reduced keys, and keys in 16 places with octets behind them that no strength of 8 octets reads.
+// Reduced keys.
 fn reduced() {
     shown(
         b"reduced to 40 bits",
@@ -244,6 +227,10 @@ fn reduced() {
         b"reduced to 128 bits",
         mppe_keys::reduce(Strength::Bits128, &HASH_HASH),
     );
+}
+
+// Keys in 16 places, with octets behind them that no strength of 8 octets reads.
+fn places() {
     placed(b"40 bits in 16 places", Strength::Bits40, 2);
     placed(b"56 bits in 16 places", Strength::Bits56, 2);
     placed(b"128 bits in 16 places", Strength::Bits128, 2);
@@ -259,29 +246,14 @@ fn placed(label: &[u8], strength: Strength, n: usize) {
     );
 }
 
-// Master keys of inputs one octet too short or too long.
+// Master keys of inputs one octet too short or too long, and the start key of a right one.
 fn masters() {
-    let right = shown(
-        b"master key of counted octets",
-        mppe_keys::master_key(&COUNTED[..16], &COUNTED[..24]),
-    );
-    shown(
-        b"hash-hash of 15 octets",
-        mppe_keys::master_key(&COUNTED[..15], &NT_RESPONSE),
-    );
-    shown(
-        b"hash-hash of 17 octets",
-        mppe_keys::master_key(&COUNTED[..17], &NT_RESPONSE),
-    );
-    shown(
-        b"NT-Response of 23 octets",
-        mppe_keys::master_key(&HASH_HASH, &COUNTED[..23]),
-    );
-    shown(
-        b"NT-Response of 25 octets",
-        mppe_keys::master_key(&HASH_HASH, &COUNTED[..25]),
-    );
-    shown(b"both empty", mppe_keys::master_key(&[], &[]));
+    let right = master(b"master key of counted octets", 16, 24);
+    master(b"hash-hash of 15 octets", 15, 24);
+    master(b"hash-hash of 17 octets", 17, 24);
+    master(b"NT-Response of 23 octets", 16, 23);
+    master(b"NT-Response of 25 octets", 16, 25);
+    master(b"both empty", 0, 0);
     start(
         b"start key of it",
         Strength::Bits56,
@@ -289,6 +261,17 @@ fn masters() {
         Direction::Send,
         &right,
     );
+}
+
+// Prints the master key of so many octets of a hash-hash and of an NT-Response, and hands back its octets.
+fn master(label: &[u8], hash: usize, response: usize) -> [u8; 16]
+    requires { ⌜ (hash ≤ 32) × (response ≤ 32) ⌝ }
+{
+    let counted = &COUNTED[..];
+    shown(
+        label,
+        mppe_keys::master_key(&counted[0..hash], &counted[0..response]),
+    )
 }
 
 // Start keys of master keys one octet too short or too long.
@@ -313,9 +296,34 @@ fn starts() {
     );
 }
 
-// Keys of the length of their strength, and one octet shorter and longer.
-fn lengths(label: &[u8], strength: Strength, short: &[u8], right: &[u8], long: &[u8]) {
-    report::line(label, 0, right);
+// Keys of n octets, the length of their strength, and one octet shorter and longer.
+fn lengths(label: &[u8], strength: Strength, n: usize)
+    requires { ⌜ (1 ≤ n) × (n ≤ 31) ⌝ }
+{
+    let counted = &COUNTED[..];
+    report::line(label, 0, &counted[0..n]);
+    one_key(
+        strength,
+        &counted[0..n - 1],
+        &counted[0..n],
+        &counted[0..n + 1],
+    );
+    one_change(
+        strength,
+        &counted[0..n - 1],
+        &counted[0..n],
+        &counted[0..n + 1],
+    );
+    changes_and_new_keys(
+        strength,
+        &counted[0..n - 1],
+        &counted[0..n],
+        &counted[0..n + 1],
+    );
+}
+
+// What is made of one key.
+fn one_key(strength: Strength, short: &[u8], right: &[u8], long: &[u8]) {
     shown(b"initial", mppe_keys::initial_session_key(strength, right));
     shown(
         b"initial, short",
@@ -328,6 +336,10 @@ fn lengths(label: &[u8], strength: Strength, short: &[u8], right: &[u8], long: &
     shown(b"reduce", mppe_keys::reduce(strength, right));
     shown(b"reduce, short", mppe_keys::reduce(strength, short));
     shown(b"reduce, long", mppe_keys::reduce(strength, long));
+}
+
+// One key change.
+fn one_change(strength: Strength, short: &[u8], right: &[u8], long: &[u8]) {
     shown(b"change", mppe_keys::key_change(strength, right, right));
     shown(
         b"change, start short",
@@ -345,15 +357,14 @@ fn lengths(label: &[u8], strength: Strength, short: &[u8], right: &[u8], long: &
         b"change, session long",
         mppe_keys::key_change(strength, right, long),
     );
+}
+
+// Several key changes, and new keys.
+fn changes_and_new_keys(strength: Strength, short: &[u8], right: &[u8], long: &[u8]) {
     changed(strength, right, right, 7);
     changed(strength, short, right, 7);
     changed(strength, right, long, 7);
     changed(strength, short, long, 0);
-    new_keys(strength, short, right, long);
-}
-
-// New keys of the length of their strength, and one octet shorter and longer.
-fn new_keys(strength: Strength, short: &[u8], right: &[u8], long: &[u8]) {
     shown(b"new key", mppe_keys::new_key(strength, right, right));
     shown(
         b"new key, start short",
