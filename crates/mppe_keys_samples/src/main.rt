@@ -95,6 +95,18 @@ const COUNTED: [u8; 32] = [
 
 // All cases, in the order of tests/mppe_keys.c.
 fn main() {
+    samples();
+    reduced();
+    places();
+    masters();
+    starts();
+    lengths(b"lengths at 40 bits", Strength::Bits40, 8);
+    lengths(b"lengths at 56 bits", Strength::Bits56, 8);
+    lengths(b"lengths at 128 bits", Strength::Bits128, 16);
+}
+
+// Section 3.5, from the master key on.
+fn samples() {
     report::line(b"hash-hash", 0, &HASH_HASH);
     report::line(b"NT-Response", 0, &NT_RESPONSE);
     let master = shown(
@@ -104,13 +116,6 @@ fn main() {
     derived(b"40 bits", Strength::Bits40, 8, master);
     derived(b"56 bits", Strength::Bits56, 8, master);
     derived(b"128 bits", Strength::Bits128, 16, master);
-    reduced();
-    places();
-    masters();
-    starts();
-    lengths(b"lengths at 40 bits", Strength::Bits40, 8);
-    lengths(b"lengths at 56 bits", Strength::Bits56, 8);
-    lengths(b"lengths at 128 bits", Strength::Bits128, 16);
 }
 
 // Prints a key, and hands back its octets.
@@ -302,24 +307,19 @@ fn lengths(label: &[u8], strength: Strength, n: usize)
 {
     let counted = &COUNTED[..];
     report::line(label, 0, &counted[0..n]);
-    one_key(
+    sized(
         strength,
         &counted[0..n - 1],
         &counted[0..n],
         &counted[0..n + 1],
     );
-    one_change(
-        strength,
-        &counted[0..n - 1],
-        &counted[0..n],
-        &counted[0..n + 1],
-    );
-    changes_and_new_keys(
-        strength,
-        &counted[0..n - 1],
-        &counted[0..n],
-        &counted[0..n + 1],
-    );
+}
+
+// Every call on keys of these lengths.
+fn sized(strength: Strength, short: &[u8], right: &[u8], long: &[u8]) {
+    one_key(strength, short, right, long);
+    one_change(strength, short, right, long);
+    changes_and_new_keys(strength, short, right, long);
 }
 
 // What is made of one key.
