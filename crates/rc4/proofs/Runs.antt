@@ -112,13 +112,13 @@ more {s} {s′} {s″} {text} {out₀} {out} {n} {v} r stepped drew h =
     rw stored (more-block {ys = v ∷ []} 1 r (rw (one, drew)) (rw one stepped) (step-octets s′ stepped (r .whole)) (omega arith))
 
 -- the next eight octets, from eight of keystream
-pub more-eight : {s s′ s″ : Rc4} {text out₀ out ys octets : List ℕ} {n : ℕ} (k : ℕ) → Running s s′ text out₀ out n → octets ≡ run s′ (replicate 8 0)
-    → s″ ≡ after s′ (replicate 8 0) → OctetCells (s″ .cells) → ys ≡ xors (take k (drop n text)) octets → k ≡ 8 → n + 8 ≤ length text
-    → Running s s″ text out₀ (take n out ++ (ys ++ drop k (drop n out))) (n + 8)
-more-eight {s} {s′} {s″} {text} {out₀} {out} {ys} {octets} {n} k r drew stepped whole wrote eight h =
+pub more-eight : {s s′ s″ : Rc4} {text out₀ out ys octets : List ℕ} {n n′ : ℕ} (k : ℕ) → Running s s′ text out₀ out n → octets ≡ run s′ (replicate 8 0)
+    → s″ ≡ after s′ (replicate 8 0) → OctetCells (s″ .cells) → ys ≡ xors (take k (drop n text)) octets → k ≡ 8 → n′ ≡ n + 8 → n + 8 ≤ length text
+    → Running s s″ text out₀ (take n out ++ (ys ++ drop k (drop n out))) n′
+more-eight {s} {s′} {s″} {text} {out₀} {out} {ys} {octets} {n} {n′} k r drew stepped whole wrote eight count h =
     let block = take 8 (drop n text) in
     let sized : length block ≡ 8 = length-take-le 8 (drop n text) (simp length-drop (omega arith)) in
-    rw eight (more-block 8 r ((rw (eight, drew) at wrote) ∙ sym (rw sized at (run-zeros s′ block))) (stepped ∙ sym (rw sized at (after-zeros s′ block))) whole h)
+    rw (eight, count) (more-block 8 r ((rw (eight, drew) at wrote) ∙ sym (rw sized at (run-zeros s′ block))) (stepped ∙ sym (rw sized at (after-zeros s′ block))) whole h)
 
 -- a loop that has come to the end of its text
 pub finished : {c c′ text out₀ out : List ℕ} {i j j′ n : ℕ} → Running (wrapped c i j) (wrapped c′ (i + n) j′) text out₀ out n → length text ≤ n → j′ ≤ j + 255 * n

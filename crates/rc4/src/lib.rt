@@ -188,21 +188,23 @@ fn run_text(state: Rc4, text: &[u8], out: &mut [u8]) -> Rc4
     }
 }
 
-// A text of whole eights over a box in place; the next j, not wrapped mod 256. i is wrapped after each eight.
+// A text of whole eights over a box in place; the next j, not wrapped mod 256. The place in the box is wrapped after each eight.
 fn run_eights(cells: &mut [u32; 256], i: usize, j: usize, text: &[u8], out: &mut [u8]) -> usize
     requires { ⌜ Ready (now cells) i j (now text) (now out) × (length (now text) % 8 ≡ 0) ⌝ }
     ensures { λ r. ⌜ Finished (now (cells .entry)) i j (now (text .entry)) (now (out .entry)) (now (cells .exit)) r (now (out .exit)) ⌝ }
 {
     let mut at = i;
     let mut next = j;
-    let mut n = 0;
-    while n < text.len() {
+    let eights = text.len() / 8;
+    let mut k = 0;
+    while k < eights {
         let e = draw_eight(cells, at, next);
         at = (at + 8) % 256;
         next = e.j;
         let octets = e.octets;
+        let n = 8 * k;
         xor_eight(&text[n..n + 8], octets, &mut out[n..n + 8]);
-        n += 8;
+        k += 1;
     }
     next
 }
