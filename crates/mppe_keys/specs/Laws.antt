@@ -81,7 +81,7 @@ pub changes-length : (s : Strength) (start : List ℕ) (n : ℕ) (session : List
     → length (changes s start n session) ≡ keyLength s
 unfolding changes
 changes-length s start zero session h = h
-changes-length s start (suc n) session h = keyChange-length s start (changes s start n session)
+changes-length s start (suc n) session h = keyChange-length s _ _
 
 -- .. and its reduced beginning
 pub reduced-head : (s : Strength) (key : List ℕ) → take (length (headOf s)) (reduced s key) ≡ headOf s
@@ -100,7 +100,7 @@ pub changes-head : (s : Strength) (start : List ℕ) (n : ℕ) (session : List �
     → take (length (headOf s)) (changes s start n session) ≡ headOf s
 unfolding changes
 changes-head s start zero session h = h
-changes-head s start (suc n) session h = keyChange-head s start (changes s start n session)
+changes-head s start (suc n) session h = keyChange-head s _ _
 
 -- reducing twice is reducing once
 pub reduced-twice : (s : Strength) (key : List ℕ) → reduced s (reduced s key) ≡ reduced s key
