@@ -1,13 +1,16 @@
 -- Texts and keys put together from parts, and the ways out of the calls.
 use mathlib.Core.Path.{_≡_, refl, sym, ap, _∙_}
 use mathlib.Core.Bool.{true, false}
-use mathlib.Core.List.{List, [], _++_, append-assoc, append-nil}
-use Prim.Native.Nat.{ℕ, zero, suc, _+_, _*_, _-_, _≤_}
+use mathlib.Core.List.{List, [], _∷_, _++_, append-assoc, append-nil}
+use Prim.Native.Nat.{ℕ, zero, suc, _+_, _*_, _-_, _≤_, _<_}
+use native.Mathlib.Numerals.{add-one}
 use native.Mathlib.Omega.{arith}
-use lib.ListN.{length, take, drop, replicate, length-append, length-drop, replicate-append-replicate, drop-of-length-le}
-use lib.Seq.{take-all, take-at, drop-at, take-append-seam, drop-append-seam, drop-append-add, drop-append-le, drop-length, length-take-le}
+use lib.Dec.{eqb}
+use lib.ListN.{length, take, drop, getD, replicate, length-append, length-drop, drop-of-length-le}
+use lib.Seq.{take-all, take-at, drop-at, take-append-seam, drop-append-seam, drop-append-add, drop-append-le, drop-cons, drop-drop, drop-length, getD-take, length-take-le}
 use borrow.Author.Tests.{le-ltb, eq-eqb, ne-eqb}
 use borrow.Rule.Slice.PartMut.{putMid}
+use Rattle.answer.specs.Answer.{pick}
 use Rattle.octets.specs.Octets.{written, longestText}
 use Rattle.sha1.specs.declared.Digest.{Digest}
 use Rattle.sha1.specs.Sha1.{sha1, sha1Answer}
@@ -16,10 +19,11 @@ use Rattle.rc4.specs.Cipher.{keySchedule}
 use Rattle.rc4.specs.Answers.{keyedAnswer, runOut}
 use Rattle.rc4.specs.Laws.{run-length, keyed-done, run-done}
 use Rattle.mppe_keys.specs.declared.Strength.{Strength}
+use Rattle.mppe_keys.specs.declared.Strength.the-variants.{Bits40, Bits56, Bits128}
 use Rattle.mppe_keys.specs.declared.Role.{Role}
 use Rattle.mppe_keys.specs.declared.Direction.{Direction}
 use Rattle.mppe_keys.specs.declared.Key.{Key}
-use Rattle.mppe_keys.specs.Keys.{keyLength, magic1, magic2, magic3, fromClient, phrase, masterKey, startKey, initialKey, padded, newKey, headOf, reduced, rc4, keyChange, changes, placed}
+use Rattle.mppe_keys.specs.Keys.{keyLength, magic1, magic2, magic3, fromClient, phrase, masterKey, startKey, initialKey, padded, newKey, headOf, begins, reduced, rc4, keyChange, changes, placed}
 use Rattle.mppe_keys.specs.Answers.{refusal, keyAnswer, oneCode, twoCode, keyChangeAnswer, keyChangesAnswer, placedChanges, Changed}
 use Rattle.mppe_keys.specs.Laws.{key-least, key-most, head-most, reduced-length, keyChange-length, changes-length, changes-one, changes-add}
 
@@ -45,10 +49,12 @@ pub key-placed : {places : List ℕ} (key : List ℕ) → places ≡ written (ta
 unfolding placed
 key-placed key e h = rw (e, take-all 16 key h, drop-replicate 16 (length key) 0)
 
--- one part more behind those that a text begins with
-grown : {t t′ : List ℕ} (l rest x : List ℕ) (at : ℕ) → t ≡ l ++ rest → t′ ≡ take at t ++ x ++ drop (at + length x) t → length l ≡ at
-    → t′ ≡ (l ++ x) ++ drop (length x) rest
-grown l rest x at e e′ h = rw (e′, e, ← h, take-append-seam l rest, drop-append-add l rest (length x), append-assoc)
+-- one part more behind what is written into the front of a buffer
+grown : {t t′ : List ℕ} (l out x : List ℕ) (at : ℕ) → t ≡ written l out → t′ ≡ take at t ++ x ++ drop (at + length x) t → length l ≡ at
+    → t′ ≡ written (l ++ x) out
+grown l out x at e e′ h =
+    rw
+    (e′, e, ← h, take-append-seam l (drop (length l) out), drop-append-add l (drop (length l) out) (length x), drop-drop (length x) (length l) out, length-append l x, append-assoc)
 
 -- what is hashed for a master key
 pub master-laid : {t₁ t₂ t₃ : List ℕ} (z a b x : List ℕ) → x ≡ magic1 → t₁ ≡ take 0 z ++ a ++ drop (0 + length a) z
@@ -56,27 +62,26 @@ pub master-laid : {t₁ t₂ t₃ : List ℕ} (z a b x : List ℕ) → x ≡ mag
     → length z ≡ 40 + length x → t₃ ≡ a ++ b ++ magic1
 master-laid z a b x ex e₁ e₂ e₃ ha hb hz =
     let g₁ = grown [] z a 0 refl e₁ refl in
-    let g₂ = grown a (drop (length a) z) b 16 g₁ e₂ ha in
+    let g₂ = grown a z b 16 g₁ e₂ ha in
     let front : length (a ++ b) ≡ 40 = simp length-append (omega arith) in
-    let g₃ = grown (a ++ b) (drop (length b) (drop (length a) z)) x 40 g₂ e₃ front in
-    let none : drop (length x) (drop (length b) (drop (length a) z)) ≡ [] = drop-of-length-le (drop (length b) (drop (length a) z)) {i = length x} (simp length-drop (omega arith)) in
-    g₃ ∙ rw (none, append-nil, ex, append-assoc)
+    let g₃ = grown (a ++ b) z x 40 g₂ e₃ front in
+    let size : length ((a ++ b) ++ x) ≡ length z = simp length-append (omega arith) in
+    g₃ ∙ rw (size, drop-length z, append-nil, ex, append-assoc)
 
--- what is hashed for a key, and more 0xF2 behind it
-pub text-laid : {t₁ t₂ t₃ : List ℕ} (m : ℕ) (a b : List ℕ) → t₁ ≡ take 0 (replicate m 0xF2) ++ a ++ drop (0 + length a) (replicate m 0xF2)
+-- what is hashed for a key of two parts
+pub text-put : {t₁ t₂ t₃ t₄ : List ℕ} (out a b : List ℕ) → t₁ ≡ take 0 out ++ a ++ drop (0 + length a) out
     → t₂ ≡ take (length a) t₁ ++ replicate 40 0 ++ drop (length a + 40) t₁ → t₃ ≡ take (length a + 40) t₂ ++ b ++ drop (length a + 40 + length b) t₂
-    → length a + length b + 80 ≤ m → t₃ ≡ padded a b ++ replicate (m - (length a + length b + 80)) 0xF2
+    → t₄ ≡ take (length a + 40 + length b) t₃ ++ replicate 40 0xF2 ++ drop (length a + 40 + length b + 40) t₃ → t₄ ≡ written (padded a b) out
 unfolding padded
-text-laid m a b e₁ e₂ e₃ h =
-    let f : List ℕ = replicate m 0xF2 in
-    let g₁ = grown [] f a 0 refl e₁ refl in
-    let g₂ = grown a (drop (length a) f) (replicate 40 0) (length a) g₁ e₂ refl in
+text-put out a b e₁ e₂ e₃ e₄ =
+    let g₁ = grown [] out a 0 refl e₁ refl in
+    let g₂ = grown a out (replicate 40 0) (length a) g₁ e₂ refl in
     let front : length (a ++ replicate 40 0) ≡ length a + 40 = length-append a (replicate 40 0) in
-    let g₃ = grown (a ++ replicate 40 0) (drop 40 (drop (length a) f)) b (length a + 40) g₂ e₃ front in
-    let left : m - length a - 40 - length b ≡ 40 + (m - (length a + length b + 80)) = omega arith in
-    g₃
-    ∙ rw
-    (drop-replicate m (length a) 0xF2, drop-replicate (m - length a) 40 0xF2, drop-replicate (m - length a - 40) (length b) 0xF2, left, ← replicate-append-replicate {A = ℕ} 40 (m - (length a + length b + 80)) 0xF2) (simp append-assoc)
+    let g₃ = grown (a ++ replicate 40 0) out b (length a + 40) g₂ e₃ front in
+    let middle : length ((a ++ replicate 40 0) ++ b) ≡ length a + 40 + length b = simp length-append (omega arith) in
+    let g₄ = grown ((a ++ replicate 40 0) ++ b) out (replicate 40 0xF2) (length a + 40 + length b) g₃ e₄ middle in
+    let parts : ((a ++ replicate 40 0) ++ b) ++ replicate 40 0xF2 ≡ a ++ replicate 40 0 ++ b ++ replicate 40 0xF2 = simp append-assoc in
+    g₄ ∙ ap (λ (l : List ℕ). written l out) parts
 
 -- what is hashed for a start key
 pub from-client : (role : Role) (direction : Direction) → fromClient role direction ≡ true → magic2 ≡ phrase role direction
@@ -85,22 +90,50 @@ from-client role direction h = rw h
 pub from-server : (role : Role) (direction : Direction) → fromClient role direction ≡ false → magic3 ≡ phrase role direction
 from-server role direction h = rw h
 
-pub phrase-laid : {text : List ℕ} (role : Role) (direction : Direction) (master p : List ℕ) → p ≡ phrase role direction
-    → text ≡ padded master p ++ replicate (180 - (length master + length p + 80)) 0xF2 → length master ≡ 16 → length p ≡ 84
-    → text ≡ padded master (phrase role direction)
-phrase-laid role direction master p ep e hm hp =
-    let none : 180 - (length master + length p + 80) ≡ 0 = omega arith in
-    e ∙ rw (none, append-nil, ep)
+pub phrase-hashed : {digest : List ℕ} (role : Role) (direction : Direction) (master p : List ℕ) → p ≡ phrase role direction
+    → digest ≡ sha1 (padded master p) → digest ≡ sha1 (padded master (phrase role direction))
+phrase-hashed role direction master p ep e = rw (e, ep)
 
--- the first octets of a key exchanged
-pub head-put : {key′ : List ℕ} (s : Strength) (head key : List ℕ) → headOf s ≡ head → key′ ≡ written (take (length key) head) key → length head ≤ length key
-    → key′ ≡ reduced s key
-unfolding reduced
-head-put s head key eh e h = rw (e, eh, take-all (length key) head h)
+-- the octets that are fixed
+abbrev pub fixed : List ℕ
+fixed = 0xD1 ∷ 0x26 ∷ 0x9E ∷ []
 
-pub head-none : (s : Strength) (key : List ℕ) → headOf s ≡ [] → key ≡ reduced s key
+pub fixed-head : {n : ℕ} (s : Strength) → n ≡ length (headOf s) → take n fixed ≡ headOf s
+unfolding headOf
+fixed-head Bits40 e = rw e
+fixed-head Bits56 e = rw e
+fixed-head Bits128 e = rw e
+
+pub head-put : {key′ : List ℕ} {n : ℕ} (s : Strength) (key : List ℕ) → n ≡ length (headOf s) → key′ ≡ written (take (length key) (take n fixed)) key
+    → 3 ≤ length key → key′ ≡ reduced s key
 unfolding reduced
-head-none s key eh = rw eh
+head-put s key en e h = rw (e, fixed-head s en, take-all (length key) (headOf s) (omega (arith, head-most s)))
+
+-- the places of a key looked at one after the other: those before i are as they are fixed
+abbrev pub BeginsTo : ℕ → List ℕ → List ℕ → ℕ → Type 0
+BeginsTo n h key i = begins (take n h) key ≡ begins (drop i (take n h)) (drop i key)
+
+step : (n : ℕ) (h key : List ℕ) (i : ℕ) → i < n → n ≤ length h → i < length key
+    → begins (drop i (take n h)) (drop i key) ≡ pick (eqb (getD key i 0) (getD h i 0)) (begins (drop (suc i) (take n h)) (drop (suc i) key)) false
+unfolding begins
+step n h key i hi hn hk =
+    rw (drop-cons (take n h) i 0 (omega (arith, length-take-le n h hn)), drop-cons key i 0 hk, getD-take n h i 0 hi)
+
+pub begins-more : (n : ℕ) (h key : List ℕ) (i : ℕ) → BeginsTo n h key i → i < n → n ≤ length h → i < length key → getD key i 0 ≡ getD h i 0
+    → BeginsTo n h key (i + 1)
+begins-more n h key i e hi hn hk same = rw (add-one i) (e ∙ step n h key i hi hn hk ∙ rw (eq-eqb (getD key i 0) (getD h i 0) same))
+
+pub begins-other : (s : Strength) (n : ℕ) (key : List ℕ) (i : ℕ) → n ≡ length (headOf s) → BeginsTo n fixed key i → i < n → n ≤ 3 → i < length key
+    → (getD key i 0 ≡ getD fixed i 0 → ⊥) → false ≡ begins (headOf s) key
+begins-other s n key i en e hi hn hk other =
+    sym (rw (← fixed-head s en) (e ∙ step n fixed key i hi hn hk ∙ rw (ne-eqb (getD key i 0) (getD fixed i 0) other)))
+
+pub begins-all : (s : Strength) (n : ℕ) (key : List ℕ) (i : ℕ) → n ≡ length (headOf s) → BeginsTo n fixed key i → n ≤ i → n ≤ 3
+    → true ≡ begins (headOf s) key
+unfolding begins
+begins-all s n key i en e hi hn =
+    let none : drop i (take n fixed) ≡ [] = drop-of-length-le (take n fixed) {i = i} (omega (arith, length-take-le n fixed hn)) in
+    sym (rw (← fixed-head s en) (e ∙ rw none))
 
 -- a key reduced in front of something else
 reduced-front : (s : Strength) (key rest : List ℕ) → length key ≡ keyLength s → reduced s (key ++ rest) ≡ reduced s key ++ rest
@@ -160,27 +193,29 @@ rest-room at k l h =
     let size : length (drop at l) ≡ length l - at = length-drop at l in
     omega (arith, length-take-le (length l - at) (drop at l) (omega arith))
 
--- the front of a text's digest is the new key
-pub key-made : {k : ℕ} {text digest : List ℕ} (s : Strength) (start session rest : List ℕ) → k ≡ keyLength s → text ≡ padded start session ++ rest
-    → digest ≡ sha1 (take (2 * k + 80) text) → length start ≡ keyLength s → length session ≡ keyLength s → take k digest ≡ newKey s start session
+-- what is hashed of a buffer that a text was written into
+pub text-room : {text : List ℕ} (first second out : List ℕ) → text ≡ written (padded first second) out → length first + length second + 80 ≤ length text
+text-room first second out e = rw e (simp length-append (omega (arith, padded-length first second)))
+
+pub front-hashed : {text digest : List ℕ} (first second out : List ℕ) → text ≡ written (padded first second) out
+    → digest ≡ sha1 (take (length first + length second + 80) text) → digest ≡ sha1 (padded first second)
+front-hashed first second out et ed = rw (ed, et, padded-front first second (drop (length (padded first second)) out) (length first + length second + 80) refl)
+
+-- the keys that are the front of a digest
+pub new-done : {k : ℕ} {digest octets : List ℕ} (s : Strength) (start session : List ℕ) → k ≡ keyLength s → digest ≡ sha1 (padded start session)
+    → octets ≡ placed (take k digest) → octets ≡ placed (newKey s start session)
 unfolding newKey
-key-made {k} s start session rest ek et ed hs hn = rw (ed, et, padded-front start session rest (2 * k + 80) (omega arith), ek)
+new-done s start session ek ed eo = rw (eo, ed, ek)
 
-pub new-done : {k : ℕ} {text digest octets : List ℕ} (s : Strength) (start session rest : List ℕ) → k ≡ keyLength s → text ≡ padded start session ++ rest
-    → digest ≡ sha1 (take (2 * k + 80) text) → octets ≡ placed (take k digest) → length start ≡ keyLength s → length session ≡ keyLength s
-    → octets ≡ placed (newKey s start session)
-new-done s start session rest ek et ed eo hs hn = rw (eo, key-made s start session rest ek et ed hs hn)
+pub initial-done : {k : ℕ} {digest octets : List ℕ} (s : Strength) (start : List ℕ) → k ≡ keyLength s → digest ≡ sha1 (padded start start)
+    → octets ≡ placed (reduced s (take k digest)) → octets ≡ placed (initialKey s start)
+unfolding initialKey newKey
+initial-done s start ek ed eo = rw (eo, ed, ek)
 
-pub initial-done : {k : ℕ} {text digest octets : List ℕ} (s : Strength) (start rest : List ℕ) → k ≡ keyLength s → text ≡ padded start start ++ rest
-    → digest ≡ sha1 (take (2 * k + 80) text) → octets ≡ placed (reduced s (take k digest)) → length start ≡ keyLength s → octets ≡ placed (initialKey s start)
-unfolding initialKey
-initial-done s start rest ek et ed eo h = rw (eo, key-made s start start rest ek et ed h h)
-
-pub start-done : {k : ℕ} {text digest octets : List ℕ} (s : Strength) (role : Role) (direction : Direction) (master : List ℕ) → k ≡ keyLength s
-    → text ≡ padded master (phrase role direction) → digest ≡ sha1 text → octets ≡ placed (take k digest)
-    → octets ≡ placed (startKey s role direction master)
+pub start-done : {k : ℕ} {digest octets : List ℕ} (s : Strength) (role : Role) (direction : Direction) (master : List ℕ) → k ≡ keyLength s
+    → digest ≡ sha1 (padded master (phrase role direction)) → octets ≡ placed (take k digest) → octets ≡ placed (startKey s role direction master)
 unfolding startKey
-start-done s role direction master ek et ed eo = rw (eo, ed, et, ek)
+start-done s role direction master ek ed eo = rw (eo, ed, ek)
 
 pub master-done : {text digest octets : List ℕ} (hashHash response : List ℕ) → text ≡ hashHash ++ response ++ magic1 → digest ≡ sha1 text
     → octets ≡ placed (take 16 digest) → octets ≡ placed (masterKey hashHash response)
@@ -188,12 +223,17 @@ unfolding masterKey
 master-done hashHash response et ed eo = rw (eo, ed, et)
 
 -- a key change in a text that is hashed
+interim-made : {k : ℕ} {text digest : List ℕ} (s : Strength) (start session rest : List ℕ) → k ≡ keyLength s → text ≡ padded start session ++ rest
+    → digest ≡ sha1 (take (2 * k + 80) text) → length start ≡ keyLength s → length session ≡ keyLength s → take k digest ≡ newKey s start session
+unfolding newKey
+interim-made {k} s start session rest ek et ed hs hn = rw (ed, et, padded-front start session rest (2 * k + 80) (omega arith), ek)
+
 pub changed-once : {k : ℕ} {digest ys text′ : List ℕ} (s : Strength) (text : List ℕ) → k ≡ keyLength s → digest ≡ sha1 (take (2 * k + 80) text)
     → ys ≡ written (reduced s (rc4 (take k digest) (take k digest))) (take (length text - (k + 40)) (drop (k + 40) text))
     → text′ ≡ putMid (k + 40) (length text - (k + 40)) text ys → Changed s 1 text text′
 unfolding Changed changes keyChange
 changed-once {k} {digest} s text ek ed ey e′ start session rest hs hn et =
-    let interim : take k digest ≡ newKey s start session = key-made s start session rest ek et ed hs hn in
+    let interim : take k digest ≡ newKey s start session = interim-made s start session rest ek et ed hs hn in
     let front : length (start ++ replicate 40 0) ≡ k + 40 = length-append start (replicate 40 0) ∙ omega arith in
     let size : length (keyChange s start session) ≡ length session = keyChange-length s start session ∙ sym hn in
     e′

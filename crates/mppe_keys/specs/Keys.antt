@@ -2,6 +2,7 @@
 use mathlib.Core.Bool.{Bool, true, false}
 use mathlib.Core.List.{List, [], _∷_, _++_}
 use Prim.Native.Nat.{ℕ, zero, suc, _-_}
+use lib.Dec.{eqb}
 use lib.ListN.{length, take, drop, replicate}
 use Rattle.answer.specs.Answer.{pick}
 use Rattle.sha1.specs.Sha1.{sha1}
@@ -87,6 +88,12 @@ headOf Bits128 = []
 -- a key with these in place of its first octets
 unfoldable pub reduced : Strength → List ℕ → List ℕ
 reduced s key = headOf s ++ drop (length (headOf s)) key
+
+-- whether a list begins with another, as a key with these
+unfoldable pub begins : List ℕ → List ℕ → Bool
+begins [] l = true
+begins (h ∷ hs) [] = false
+begins (h ∷ hs) (x ∷ xs) = pick (eqb x h) (begins hs xs) false
 
 -- "Initial session key: reduce(new-key(start, start)), no RC4"
 unfoldable pub initialKey : Strength → List ℕ → List ℕ

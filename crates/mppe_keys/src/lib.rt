@@ -5,7 +5,7 @@ ghost use Prim.Native.Nat.{_+_, _-_, _≤_};
 ghost use lib.ListN.{length, take, drop, replicate};
 ghost use Rattle.octets.specs.Octets.{written, longestText};
 ghost use Rattle.sha1.specs.Sha1.{sha1 as digestOf};
-ghost use Rattle.mppe_keys.specs.Keys.{keyLength, magic1, fromClient, phrase, padded, reduced, rc4, changes, placed as placedKey};
+ghost use Rattle.mppe_keys.specs.Keys.{keyLength, magic1, fromClient, phrase, padded, headOf, begins, reduced, rc4, changes, placed as placedKey};
 ghost use Rattle.mppe_keys.specs.Answers.{refusal, masterKeyAnswer, startKeyAnswer, newKeyAnswer, initialKeyAnswer, reduceAnswer, keyChangeAnswer, keyChangesAnswer, placedChanges, Changed};
 use octets::copy;
 use octets::copy_at;
@@ -15,6 +15,8 @@ use rc4::Rc4;
 pub const KEY_PLACES: usize = 16;
 // The octets of an NT-Response.
 const RESPONSE_OCTETS: usize = 24;
+// What the first octets of a key are fixed to, three at 40 bits and one at 56.
+const FIXED: [u8; 3] = [0xD1, 0x26, 0x9E];
 
 // The strengths of a key, by its bits.
 pub enum Strength {
@@ -78,8 +80,7 @@ pub fn start_key(strength: Strength, role: Role, direction: Direction, master: &
         return refused();
     }
     let n = key_octets(strength);
-    let text = start_text(role, direction, master);
-    let digest = digest_of(&text);
+    let digest = start_digest(role, direction, master);
     Key {
         answer: answer::DONE,
         octets: placed(&digest[..n]),
@@ -97,8 +98,7 @@ pub fn new_key(strength: Strength, start: &[u8], session: &[u8]) -> Key
     if session.len() != k {
         return refused();
     }
-    let text = key_text(start, session);
-    let digest = digest_of(&text[..2 * k + 80]);
+    let digest = key_digest(start, session);
     Key {
         answer: answer::DONE,
         octets: placed(&digest[..k]),
@@ -113,8 +113,7 @@ pub fn initial_session_key(strength: Strength, start: &[u8]) -> Key
     if start.len() != n {
         return refused();
     }
-    let text = key_text(start, start);
-    let digest = digest_of(&text[..2 * n + 80]);
+    let digest = key_digest(start, start);
     Key {
         answer: answer::DONE,
         octets: reduced_places(strength, &digest[..n]),
@@ -133,6 +132,22 @@ pub fn reduce(strength: Strength, key: &[u8]) -> Key
         answer: answer::DONE,
         octets: reduced_places(strength, key),
     }
+}
+
+// Whether a key in 16 places begins as reducing leaves it.
+pub fn begins_reduced(strength: Strength, key: [u8; 16]) -> bool
+    ensures { λ r. ⌜ r ≡ begins (headOf strength) key ⌝ }
+{
+    let n = fixed_octets(strength);
+    let fixed = FIXED;
+    let mut i = 0;
+    while i < n {
+        if key[i] != fixed[i] {
+            return false;
+        }
+        i += 1;
+    }
+    true
 }
 
 // The session key after one key change.
@@ -201,18 +216,18 @@ fn master_text(hash: &[u8], response: &[u8]) -> [u8; 67]
     text
 }
 
-// What is hashed for a start key.
-fn start_text(role: Role, direction: Direction, master: &[u8]) -> [u8; 180]
+// The digest that a start key is the front of.
+fn start_digest(role: Role, direction: Direction, master: &[u8]) -> [u8; 20]
     requires { ⌜ length (now master) ≡ 16 ⌝ }
-    ensures { λ r. ⌜ r ≡ padded (now (master .entry)) (phrase role direction) ⌝ }
+    ensures { λ r. ⌜ r ≡ digestOf (padded (now (master .entry)) (phrase role direction)) ⌝ }
 {
     if from_client(role, direction) {
-        key_text(
+        key_digest(
             master,
             b"On the client side, this is the send key; on the server side, it is the receive key.",
         )
     } else {
-        key_text(
+        key_digest(
             master,
             b"On the client side, this is the receive key; on the server side, it is the send key.",
         )
@@ -235,17 +250,26 @@ fn from_client(role: Role, direction: Direction) -> bool
     }
 }
 
-// What is hashed for a key of two parts, with more 0xF2 behind it.
-fn key_text(first: &[u8], second: &[u8]) -> [u8; 180]
+// The digest that a key of two parts is the front of.
+fn key_digest(first: &[u8], second: &[u8]) -> [u8; 20]
     requires { ⌜ (length (now first) ≤ 16) × (length (now second) ≤ 84) ⌝ }
-    ensures { λ r. ⌜ r ≡ padded (now (first .entry)) (now (second .entry))
-        ++ replicate (180 - (length (now (first .entry)) + length (now (second .entry)) + 80)) 0xF2 ⌝ }
+    ensures { λ r. ⌜ r ≡ digestOf (padded (now (first .entry)) (now (second .entry))) ⌝ }
 {
-    let mut text = [0xF2u8; 180];
-    put(first, 0, &mut text);
-    put(&[0u8; 40], first.len(), &mut text);
-    put(second, first.len() + 40, &mut text);
-    text
+    let mut text = [0u8; 180];
+    put_key_text(first, second, &mut text);
+    digest_of(&text[..first.len() + second.len() + 80])
+}
+
+// Writes what is hashed for a key of two parts into the front of a buffer.
+fn put_key_text(first: &[u8], second: &[u8], out: &mut [u8])
+    requires { ⌜ length (now first) + length (now second) + 80 ≤ length (now out) ⌝ }
+    ensures { λ _. ⌜ now (out .exit) ≡ written (padded (now (first .entry)) (now (second .entry))) (now (out .entry)) ⌝ }
+{
+    let middle = first.len() + 40;
+    put(first, 0, out);
+    put(&[0u8; 40], first.len(), out);
+    put(second, middle, out);
+    put(&[0xF2u8; 40], middle + second.len(), out);
 }
 
 // Writes octets into a buffer.
@@ -291,14 +315,18 @@ fn reduce_front(strength: Strength, key: &mut [u8])
     requires { ⌜ 3 ≤ length (now key) ⌝ }
     ensures { λ _. ⌜ now (key .exit) ≡ reduced strength (now (key .entry)) ⌝ }
 {
+    let n = fixed_octets(strength);
+    copy(&FIXED[..n], key);
+}
+
+// How many first octets are fixed.
+fn fixed_octets(strength: Strength) -> usize
+    ensures { λ r. ⌜ (r ≡ length (headOf strength)) × (r ≤ 3) ⌝ }
+{
     match strength {
-        Strength::Bits40 => {
-            copy(&[0xD1, 0x26, 0x9E], key);
-        }
-        Strength::Bits56 => {
-            copy(&[0xD1], key);
-        }
-        Strength::Bits128 => {}
+        Strength::Bits40 => 3,
+        Strength::Bits56 => 1,
+        Strength::Bits128 => 0,
     }
 }
 
@@ -308,14 +336,15 @@ fn changed(strength: Strength, start: &[u8], session: &[u8], n: usize) -> [u8; 1
     ensures { λ r. ⌜ r ≡ placedKey (changes strength (now (start .entry)) n (now (session .entry))) ⌝ }
 {
     let k = key_octets(strength);
-    let mut text = key_text(start, session);
+    let mut text = [0u8; 112];
+    put_key_text(start, session, &mut text);
     change_times(strength, &mut text, n);
     placed(&text[k + 40..2 * k + 40])
 }
 
 // n key changes in a text that is hashed.
 fn change_times(strength: Strength, text: &mut [u8], n: usize)
-    requires { ⌜ length (now text) ≡ 180 ⌝ }
+    requires { ⌜ length (now text) ≡ 112 ⌝ }
     ensures { λ _. ⌜ Changed strength n (now (text .entry)) (now (text .exit)) ⌝ }
 {
     let mut i = 0;
@@ -327,7 +356,7 @@ fn change_times(strength: Strength, text: &mut [u8], n: usize)
 
 // One key change in a text that is hashed: the next session key is written where the last one stands.
 fn change(strength: Strength, text: &mut [u8])
-    requires { ⌜ length (now text) ≡ 180 ⌝ }
+    requires { ⌜ length (now text) ≡ 112 ⌝ }
     ensures { λ _. ⌜ Changed strength 1 (now (text .entry)) (now (text .exit)) ⌝ }
 {
     let k = key_octets(strength);

@@ -22,16 +22,20 @@ slice-reshare-prefix-digest-of : tie.Need-slice-reshare-prefix-digest-of
 slice-reshare-prefix-digest-of c = search needs
 
 slice-aggregate-digest-of : tie.Need-slice-aggregate-digest-of
-slice-aggregate-digest-of c = count (2 * c .before .key-octets .result + 80) (c .before .before .before .args .text .now) (omega arith)
+slice-aggregate-digest-of c = let measured = c .before in
+    count (2 * measured .key-octets .result + 80) (measured .before .before .args .text .now) (omega arith)
 
 digest-of-requires : tie.Need-digest-of-requires
-digest-of-requires c κs = front-short (2 * c .before .key-octets .result + 80) (c .before .before .before .args .text .now) (omega arith) (omega arith)
+digest-of-requires c κs = let measured = c .before in
+    front-short (2 * measured .key-octets .result + 80) (measured .before .before .args .text .now) (omega arith) (omega arith)
 
 array-share-prefix-digest : tie.Need-array-share-prefix-digest
 array-share-prefix-digest c = search needs
 
 slice-aggregate-put-next-key : tie.Need-slice-aggregate-put-next-key
-slice-aggregate-put-next-key c = let d = c .before .digest-of .result in let size : length d ≡ 20 = search needs in count (c .before .before .before .key-octets .result) d (omega arith)
+slice-aggregate-put-next-key c = let hashed = c .before in
+    let size : length (hashed .digest-of .result) ≡ 20 = search needs in
+    count (hashed .before .before .key-octets .result) (hashed .digest-of .result) (omega arith)
 
 add-put-next-key : tie.Need-add-put-next-key
 add-put-next-key c = search needs
@@ -46,14 +50,22 @@ part-put-next-key-end : tie.Need-part-put-next-key-end
 part-put-next-key-end c = search needs
 
 put-next-key-requires : tie.Need-put-next-key-requires
-put-next-key-requires c κs = let d = c .before .before .digest-of .result in let size : length d ≡ 20 = search needs in let k = c .before .before .before .before .key-octets in
-    (length-take-le (k .result) d (omega arith) ∙ k .ensures .0, rest-room (k .result + 40) (keyLength (c .before .before .before .before .before .before .args .strength)) (c .before .before .before .before .before .before .args .text .now) (omega arith))
+put-next-key-requires c κs = let hashed = c .before .before in
+    let measured = hashed .before .before in
+    let begun = measured .before .before .args in
+    let size : length (hashed .digest-of .result) ≡ 20 = search needs in
+    let k = measured .key-octets in
+    (length-take-le (k .result) (hashed .digest-of .result) (omega arith) ∙ k .ensures .0, rest-room (k .result + 40) (keyLength (begun .strength)) (begun .text .now) (omega arith))
 
 same-length : tie.Need-same-length
 same-length c = search needs
 
 returns : tie.Need-returns
-returns c = changed-once (c .before .before .before .before .before .before .before .before .before .args .strength) (c .before .before .before .before .before .before .before .before .before .args .text .now) (c .before .before .before .before .before .before .before .key-octets .ensures .0) (c .before .before .before .before .before .digest-of .ensures) (c .before .before .put-next-key .ensures) refl
+returns c = let put = c .before .before in
+    let hashed = put .before .before .before in
+    let measured = hashed .before .before in
+    let begun = measured .before .before .args in
+    changed-once (begun .strength) (begun .text .now) (measured .key-octets .ensures .0) (hashed .digest-of .ensures) (put .put-next-key .ensures) refl
 
 pub change-spec : {M : Type 1} → statement M
 change-spec =

@@ -9,7 +9,7 @@ use Rattle.mppe_keys.proofs.change_times.Statement.{statement}
 use Rattle.mppe_keys.proofs.change_times.Tie as tie
 
 abbrev Inv-loop : tie.InvT-loop
-Inv-loop strength text₀ n i₀ text i = (length text ≡ 180) × (length text ≡ length text₀) × (i ≤ n) × Changed strength i text₀ text
+Inv-loop strength text₀ n i₀ text i = (length text ≡ 112) × (length text ≡ length text₀) × (i ≤ n) × Changed strength i text₀ text
 
 abbrev μ-loop : tie.MeasureT-loop
 μ-loop strength text₀ n i₀ text i = n - i
@@ -27,8 +27,10 @@ loop-less : tie.Need-loop-less Inv-loop μ-loop
 loop-less c = search needs
 
 loop-again : tie.Need-loop-again Inv-loop μ-loop
-loop-again c = let l = c .before .before .before .before .before .loop in let kept = c .before .before .change .kept .1 .0 in
-    (kept ∙ l .inv .0, kept ∙ l .inv .1, omega arith, changed-more _ _ _ _ _ (l .inv .3) (c .before .before .change .ensures))
+loop-again c = let changed = c .before .before in
+    let l = changed .before .before .before .loop in
+    let kept = changed .change .kept .1 .0 in
+    (kept ∙ l .inv .0, kept ∙ l .inv .1, omega arith, changed-more _ _ _ _ _ (l .inv .3) (changed .change .ensures))
 
 same-length : tie.Need-same-length Inv-loop μ-loop
 same-length c = search needs

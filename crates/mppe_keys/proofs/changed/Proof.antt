@@ -1,13 +1,16 @@
-use borrow.Author.Needs.{needs}
 use Rattle.mppe_keys.proofs.Laws.{key-changed}
+use borrow.Author.Needs.{needs}
 use Rattle.mppe_keys.proofs.changed.Statement.{statement}
 use Rattle.mppe_keys.proofs.changed.Tie as tie
 
 key-octets-requires : tie.Need-key-octets-requires
 key-octets-requires c κs = search needs
 
-key-text-requires : tie.Need-key-text-requires
-key-text-requires c κs = search needs
+slice-aggregate-put-key-text : tie.Need-slice-aggregate-put-key-text
+slice-aggregate-put-key-text c = search needs
+
+put-key-text-requires : tie.Need-put-key-text-requires
+put-key-text-requires c κs = search needs
 
 slice-aggregate-change-times : tie.Need-slice-aggregate-change-times
 slice-aggregate-change-times c = search needs
@@ -37,14 +40,19 @@ placed-requires : tie.Need-placed-requires
 placed-requires c κs = search needs
 
 returns : tie.Need-returns
-returns c = key-changed _ _ _ _ _ _ (c .before .before .before .before .before .before .before .key-octets .ensures .0) (c .before .before .before .before .before .before .key-text .ensures) (c .before .before .before .before .change-times .ensures) (c .placed .ensures) (c .before .before .before .before .before .before .before .before .before .before .pre .0) (c .before .before .before .before .before .before .before .before .before .before .pre .1)
+returns c = let changed = c .before .before .before .before in
+    let put = changed .before .before .before in
+    let measured = put .before .before in
+    let begun = measured .before .before .before in
+    key-changed _ _ _ _ _ _ (measured .key-octets .ensures .0) (put .put-key-text .ensures) (changed .change-times .ensures) (c .placed .ensures) (begun .pre .0) (begun .pre .1)
 
 pub changed-spec : {M : Type 1} → statement M
 changed-spec =
     tie.close
     (tie.spec
     key-octets-requires
-    key-text-requires
+    slice-aggregate-put-key-text
+    put-key-text-requires
     slice-aggregate-change-times
     change-times-requires
     add-placed

@@ -35,14 +35,21 @@ array-share-prefix-digest : tie.Need-array-share-prefix-digest
 array-share-prefix-digest c = search needs
 
 slice-aggregate-placed : tie.Need-slice-aggregate-placed
-slice-aggregate-placed c = let d = c .before .digest-of .result in let size : length d ≡ 20 = search needs in count 16 d (omega arith)
+slice-aggregate-placed c = let d = c .before .digest-of .result in
+    let size : length d ≡ 20 = search needs in
+    count 16 d (omega arith)
 
 placed-requires : tie.Need-placed-requires
-placed-requires c κs = let d = c .before .digest-of .result in let size : length d ≡ 20 = search needs in omega (arith, length-take-le 16 d (omega arith))
+placed-requires c κs = let d = c .before .digest-of .result in
+    let size : length d ≡ 20 = search needs in
+    omega (arith, length-take-le 16 d (omega arith))
 
 returns-3 : tie.Need-returns-3
 unfolding masterKeyAnswer
-returns-3 c = two-right _ _ _ _ _ (c .before .before .before .before .before .before .if1 .left) (c .before .before .before .before .before .if2 .left) (master-done _ _ (c .before .before .before .before .master-text .ensures) (c .before .before .digest-of .ensures) (c .placed .ensures))
+returns-3 c = let hashed = c .before .before in
+    let laid = hashed .before .before in
+    let second = laid .before in
+    two-right _ _ _ _ _ (second .before .if1 .left) (second .if2 .left) (master-done _ _ (laid .master-text .ensures) (hashed .digest-of .ensures) (c .placed .ensures))
 
 pub master-key-spec : {M : Type 1} → statement M
 master-key-spec =

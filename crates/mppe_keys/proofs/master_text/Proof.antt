@@ -29,7 +29,11 @@ put-requires-3 c κs = search needs
 
 returns : tie.Need-returns
 unfolding magic1
-returns c = let s = c .before .before .before .before .before .before .before .before .before .before .before .before in master-laid (replicate 67 0) (s .args .hash .now) (s .args .response .now) _ refl (c .before .before .before .before .before .before .before .before .put .ensures) (c .before .before .before .before .before .put2 .ensures) (c .before .put3 .ensures) (s .pre .0) (s .pre .1) refl
+returns c = let phrase = c .before in
+    let second = phrase .before .before .before .before in
+    let first = second .before .before .before in
+    let begun = first .before .before .before .before in
+    master-laid (replicate 67 0) (begun .args .hash .now) (begun .args .response .now) _ refl (first .put .ensures) (second .put2 .ensures) (phrase .put3 .ensures) (begun .pre .0) (begun .pre .1) refl
 
 pub master-text-spec : {M : Type 1} → statement M
 master-text-spec =

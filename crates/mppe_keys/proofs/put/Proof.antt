@@ -12,8 +12,9 @@ same-length : tie.Need-same-length
 same-length c = search needs
 
 returns : tie.Need-returns
-returns c = let a = c .before .before .before .before .before .before in
-    c .before .before .copy-at .ensures ∙ copy-fits (a .args .at) (now (a .args .octets)) (now (a .args .out)) (a .pre)
+returns c = let copied = c .before .before in
+    let begun = copied .before .before .before .before in
+    copied .copy-at .ensures ∙ copy-fits (begun .args .at) (now (begun .args .octets)) (now (begun .args .out)) (begun .pre)
 
 pub put-spec : {M : Type 1} → statement M
 put-spec = tie.close (tie.spec copy-at-requires same-length returns)

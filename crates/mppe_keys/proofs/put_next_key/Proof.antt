@@ -12,13 +12,18 @@ run-requires : tie.Need-run-requires
 run-requires c κs = search needs
 
 reduce-front-requires : tie.Need-reduce-front-requires
-reduce-front-requires c κs = omega (arith, key-least (c .before .before .before .before .before .before .before .before .before .args .strength), c .before .before .before .before .before .before .before .before .before .pre .1)
+reduce-front-requires c κs = let begun = c .before .before .before .before .before .before .before .before .before in
+    omega (arith, key-least (begun .args .strength), begun .pre .1)
 
 same-length : tie.Need-same-length
 same-length c = search needs
 
 returns : tie.Need-returns
-returns c = let s = c .before .before .before .before .before .before .before .before .before .before .before .before in next-put _ _ _ (c .before .before .before .before .before .before .before .before .before .keyed .ensures) (c .before .before .before .before .before .before .run .ensures .1) (c .before .before .reduce-front .ensures) (s .pre .0) (s .pre .1)
+returns c = let reduced = c .before .before in
+    let ran = reduced .before .before .before .before in
+    let keyed = ran .before .before .before in
+    let begun = keyed .before .before .before in
+    next-put _ _ _ (keyed .keyed .ensures) (ran .run .ensures .1) (reduced .reduce-front .ensures) (begun .pre .0) (begun .pre .1)
 
 pub put-next-key-spec : {M : Type 1} → statement M
 put-next-key-spec =

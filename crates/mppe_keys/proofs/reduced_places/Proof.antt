@@ -15,7 +15,9 @@ reduce-front-requires : tie.Need-reduce-front-requires
 reduce-front-requires c κs = search needs
 
 returns : tie.Need-returns
-returns c = places-reduced _ _ (c .before .before .before .placed .ensures) (c .before .reduce-front .ensures) (c .before .before .before .before .before .pre)
+returns c = let reduced = c .before in
+    let put = reduced .before .before in
+    places-reduced _ _ (put .placed .ensures) (reduced .reduce-front .ensures) (put .before .before .pre)
 
 pub reduced-places-spec : {M : Type 1} → statement M
 reduced-places-spec =
