@@ -1,4 +1,4 @@
--- The laws of padding and of a run over blocks, over any compression function.
+-- The laws of sums, of padding and of a run over blocks, over any compression function.
 use mathlib.Core.Path.{_≡_, refl, subst, _∙_}
 use mathlib.Core.List.{List, _++_, append-assoc}
 use Prim.Native.Nat.{ℕ, zero, suc, _+_, _*_, _-_, _/_, _%_, _≤_, _<_}
@@ -7,9 +7,14 @@ use native.Mathlib.Numerals.{add-one}
 use native.Mathlib.Omega.{arith}
 use lib.ListN.{length, take, drop, length-append, length-drop, take-append-drop, set}
 use lib.Seq.{length-take-le, take-append-le, drop-append-le, drop-drop, drop-append-seam, take-append-seam, take-all, take-suc-set}
+use Rattle.octets.specs.Words.{_⊞_}
 use Rattle.octets.specs.declared.Order.{Order}
 use Rattle.blocks.specs.declared.Tail.{Tail}
 use Rattle.blocks.specs.Blocks.{schedule, rounds, tailOf, block, padding, padded, ending, after, absorbed, hashed, closed}
+
+-- two words are added in either order
+pub add-swap : (a x y : ℕ) → a ⊞ x ⊞ y ≡ a ⊞ y ⊞ x
+add-swap a x y = omega arith
 
 -- one word more of a schedule
 pub word-more : {x : ℕ} (next : List ℕ → ℕ → ℕ) (w : List ℕ) (t : ℕ) → take t w ≡ schedule next t → x ≡ next (take t w) t → t < length w

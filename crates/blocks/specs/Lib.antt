@@ -1,1 +1,2 @@
+-- To be believed. Only private functions of the digests cite `closed`.
 pub mod Blocks

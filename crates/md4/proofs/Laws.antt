@@ -1,39 +1,66 @@
 -- A block's rounds together, and the ways out of the call.
-use mathlib.Core.Path.{refl, _≡_, sym, _∙_}
+use mathlib.Core.Path.{refl, _≡_, sym, ap, _∙_}
 use mathlib.Core.Bool.{Bool}
 use mathlib.Core.List.{List}
-use Prim.Native.Nat.{ℕ, _+_, _*_, _/_, _%_, _≤_, _<_}
+use Prim.Native.Nat.{ℕ, _*_, _/_, _%_, _^_, _≤_, _<_}
+use native.Mathlib.Nat.{mod-lt}
 use native.Mathlib.Omega.{arith}
-use lib.Dec.{T, ltb, eqb, ltb→lt, eqb→eq}
+use lib.Dec.{T, ltb, eqb, eqb→eq}
 use lib.ListN.{length, getD}
 use borrow.Author.Tests.{lt-ltb, le-ltb}
-use Rattle.octets.specs.Octets.{longestText}
+use Rattle.octets.specs.Octets.{wordLE, longestText}
+use Rattle.octets.specs.Words.{_⊞_, rotl}
 use Rattle.octets.specs.declared.Order.the-variants.{LowestFirst}
 use Rattle.octets.proofs.Below.{both, both-left, both-right, below}
 use Rattle.answer.specs.Answer.{done, pick}
 use Rattle.blocks.specs.Blocks.{rounds, hashed}
-use Rattle.blocks.proofs.Laws.{rounds-add}
-use Rattle.md4.specs.Md4.{places, operation, added, compress, initial, octetsIn, md4, refusal, md4Answer}
+use Rattle.blocks.proofs.Laws.{add-swap, rounds-add}
+use Rattle.md4.specs.Md4.{mixed, constant, places, shift, operation, added, compress, initial, octetsIn, md4, refusal, md4Answer}
 use Rattle.md4.specs.declared.State.{State}
 use Rattle.md4.specs.declared.Digest.{Digest}
 
--- the places of the three rounds, by arithmetic; each is one of the sixteen
-unfoldable pub place : ℕ → ℕ
-place t =
-    let i : ℕ = t % 16 in
-    pick (ltb t 16) i (pick (ltb t 32) (4 * (i % 4) + i / 4) (8 * (i % 2) + 4 * (i / 2 % 2) + 2 * (i / 4 % 2) + i / 8))
+-- the places and the rotations as the code has them: digits of one number a round
+abbrev digits : ℕ → ℕ → ℕ → ℕ → ℕ
+digits t a b c = pick (ltb t 16) a (pick (ltb t 32) b c)
 
+abbrev pub place : ℕ → ℕ
+place t = digits t 0xfedcba9876543210 0xfb73ea62d951c840 0xf7b3d591e6a2c480 / 2 ^ (4 * (t % 16)) % 16
+
+abbrev pub turn : ℕ → ℕ
+turn t = digits t 0x130b0703 0x0d090503 0x0f0b0903 / 2 ^ (8 * (t % 4)) % 256
+
+-- they are those of the definition, by one test of all 48 operations
 right : ℕ → Bool
-right t = both (eqb (getD places t 0) (place t)) (ltb (getD places t 0) 16)
+right t = both (eqb (getD places t 0) (place t)) (eqb (shift t) (turn t))
 
-pub placed : {x : ℕ} (t : ℕ) → x ≡ place t → t < 48 → (x ≡ getD places t 0) × (x < 16)
-unfolding places place right
-placed t e h =
-    let entry : ℕ = getD places t 0 in
+rule : (t : ℕ) → t < 48 → (getD places t 0 ≡ place t) × (shift t ≡ turn t)
+unfolding places shift right
+rule t h =
     let test : T (right t) = below right 48 tt t h in
-    let same : entry ≡ place t = eqb→eq entry (place t) (both-left (eqb entry (place t)) (ltb entry 16) test) in
-    let small : entry < 16 = ltb→lt entry 16 (both-right (eqb entry (place t)) (ltb entry 16) test) in
-    (e ∙ sym same, omega arith)
+    let same : Bool = eqb (getD places t 0) (place t) in
+    let same′ : Bool = eqb (shift t) (turn t) in
+    (eqb→eq (getD places t 0) (place t) (both-left same same′ test), eqb→eq (shift t) (turn t) (both-right same same′ test))
+
+pub placed : {x d : ℕ} (t : ℕ) → d ≡ digits t 0xfedcba9876543210 0xfb73ea62d951c840 0xf7b3d591e6a2c480 → x ≡ d / 2 ^ (4 * (t % 16)) % 16 → t < 48
+    → (x ≡ getD places t 0) × (x < 16)
+placed {x} {d} t ed e h =
+    let small : d / 2 ^ (4 * (t % 16)) % 16 < 16 = mod-lt _ (omega arith) in
+    (e ∙ ap (λ (n : ℕ). n / 2 ^ (4 * (t % 16)) % 16) ed ∙ sym (rule t h .0), omega arith)
+
+pub turned : {x d : ℕ} (t : ℕ) → d ≡ digits t 0x130b0703 0x0d090503 0x0f0b0903 → x ≡ d / 2 ^ (8 * (t % 4)) % 256 → t < 48 → x ≡ shift t
+turned t ed e h = e ∙ ap (λ (n : ℕ). n / 2 ^ (8 * (t % 4)) % 256) ed ∙ sym (rule t h .1)
+
+-- an operation, with the function's result added last
+added-last : (a m w k : ℕ) → a ⊞ w ⊞ k ⊞ m ≡ a ⊞ m ⊞ w ⊞ k
+added-last a m w k = rw (add-swap a m w, add-swap (a ⊞ w) m k)
+
+pub operated : {p w y₁ k y₂ m y₃ n r : ℕ} (s : State) (block : List ℕ) (t : ℕ) → p ≡ getD places t 0 → w ≡ wordLE block (4 * p) → y₁ ≡ s .a ⊞ w
+    → k ≡ constant t → y₂ ≡ y₁ ⊞ k → m ≡ mixed t (s .b) (s .c) (s .d) → y₃ ≡ y₂ ⊞ m → n ≡ shift t → r ≡ rotl n y₃
+    → _≡_ {A = State} (record { a = s .d; b = r; c = s .b; d = s .c }) (operation block t s)
+unfolding operation
+operated s block t ep ew e₁ ek e₂ em e₃ en er =
+    rw
+    (er, en, e₃, e₂, e₁, ew, ep, ek, em, added-last (s .a) (mixed t (s .b) (s .c) (s .d)) (wordLE block (4 * getD places t 0)) (constant t))
 
 -- three rounds, added to the words before
 pub block-done : {s₁ s₂ s₃ r : State} (s : State) (block : List ℕ) → s₁ ≡ rounds (operation block) 0 16 s → s₂ ≡ rounds (operation block) 16 16 s₁

@@ -1,8 +1,9 @@
 // MD4 (RFC 1320) of a lent text.
 ghost use mathlib.Core.Path.{_≡_};
-ghost use mathlib.Core.List.{_∷_, []};
 ghost use Prim.Native.Nat.{_+_, _*_, _<_, _≤_};
+ghost use lib.Dec.{ltb};
 ghost use lib.ListN.{length, getD};
+ghost use Rattle.answer.specs.Answer.{pick};
 ghost use Rattle.blocks.specs.Blocks.{rounds, absorbed as afterBlocks, hashed as hashedBy};
 ghost use Rattle.octets.specs.declared.Order.the-variants.{LowestFirst};
 ghost use Rattle.octets.specs.Octets.{wordLE, longestText};
@@ -100,15 +101,15 @@ fn round(s: State, block: &[u8], q: usize) -> State
     x
 }
 
-// Operation t. The words change their names for the next one.
+// Operation t. The words change their names for the next one. The function's result is added last: it waits for the operation before.
 fn operation(s: State, block: &[u8], t: usize) -> State
     requires { ⌜ (length (now block) ≡ 64) × (t < 48) ⌝ }
     ensures { λ r. ⌜ r ≡ operationOf (now (block .entry)) t s ⌝ }
 {
-    let sum = add(add(s.a, mixed(t, s.b, s.c, s.d)), word_at(block, place(t)));
+    let sum = add(add(s.a, word_at(block, place(t))), constant(t));
     State {
         a: s.d,
-        b: rotl(add(sum, constant(t)), shift(t)),
+        b: rotl(add(sum, mixed(t, s.b, s.c, s.d)), shift(t)),
         c: s.b,
         d: s.c,
     }
@@ -140,49 +141,40 @@ fn constant(t: usize) -> u32
     0x6ed9eba1
 }
 
-// The word of the block that operation t takes: in order, by columns of four, and with the bits of its number reversed.
+// The word of the block that operation t takes: a digit of a number in base 16, from the right.
 fn place(t: usize) -> usize
     requires { ⌜ t < 48 ⌝ }
     ensures { λ r. ⌜ (r ≡ getD places t 0) × (r < 16) ⌝ }
 {
-    let i = t % 16;
-    if t < 16 {
-        return i;
-    }
-    if t < 32 {
-        return 4 * (i % 4) + i / 4;
-    }
-    8 * (i % 2) + 4 * (i / 2 % 2) + 2 * (i / 4 % 2) + i / 8
+    let digits = of_round(
+        t,
+        0xfedcba9876543210,
+        0xfb73ea62d951c840,
+        0xf7b3d591e6a2c480,
+    );
+    ((digits >> (4 * (t % 16))) % 16) as usize
 }
 
-// By how many places operation t rotates.
+// By how many places operation t rotates: a digit of a number in base 256.
 fn shift(t: usize) -> u32
+    requires { ⌜ t < 48 ⌝ }
     ensures { λ r. ⌜ r ≡ shiftOf t ⌝ }
 {
-    if t < 16 {
-        return one_of(t % 4, 3, 7, 11, 19);
-    }
-    if t < 32 {
-        return one_of(t % 4, 3, 5, 9, 13);
-    }
-    one_of(t % 4, 3, 9, 11, 15)
+    let digits = of_round(t, 0x130b0703, 0x0d090503, 0x0f0b0903);
+    ((digits >> (8 * (t % 4))) % 256) as u32
 }
 
-// One of four numbers.
-fn one_of(i: usize, a: u32, b: u32, c: u32, d: u32) -> u32
-    requires { ⌜ i < 4 ⌝ }
-    ensures { λ r. ⌜ r ≡ getD (a ∷ b ∷ c ∷ d ∷ []) i 0 ⌝ }
+// The number, of one for each round, for operation t.
+fn of_round(t: usize, a: u64, b: u64, c: u64) -> u64
+    ensures { λ r. ⌜ r ≡ pick (ltb t 16) a (pick (ltb t 32) b c) ⌝ }
 {
-    if i == 0 {
+    if t < 16 {
         return a;
     }
-    if i == 1 {
+    if t < 32 {
         return b;
     }
-    if i == 2 {
-        return c;
-    }
-    d
+    c
 }
 
 // Word i of a block.

@@ -216,7 +216,7 @@ fn sixteen(s: State, w: &[u32; 64], k: &[u32; 64], q: usize) -> State
     x
 }
 
-// Round t.
+// Round t. What waits longest for the round before is added last.
 fn round(s: State, w: &[u32; 64], k: &[u32; 64], t: usize) -> State
     requires { ⌜ (t < 64) × (now k ≡ constants) ⌝ }
     ensures { λ r. ⌜ r ≡ roundOf (now (w .entry)) t s ⌝ }
@@ -224,8 +224,8 @@ fn round(s: State, w: &[u32; 64], k: &[u32; 64], t: usize) -> State
     let chosen = (s.e & s.f) ^ (!s.e & s.g);
     let majority = (s.a & s.b) ^ (s.a & s.c) ^ (s.b & s.c);
     let t1 = add(
-        add(add(add(s.h, big_sigma(6, 11, 25, s.e)), chosen), k[t]),
-        w[t],
+        add(add(add(s.h, k[t]), w[t]), chosen),
+        big_sigma(6, 11, 25, s.e),
     );
     let t2 = add(big_sigma(2, 13, 22, s.a), majority);
     State {
