@@ -1,5 +1,6 @@
 -- The ways out of calls that hand on what others gave.
 use mathlib.Core.Path.{_≡_, ap, _∙_}
+use mathlib.Core.Bool.{Bool}
 use mathlib.Core.List.{List}
 use Prim.Native.Nat.{ℕ}
 use lib.ListN.{length, take, replicate}
@@ -7,11 +8,11 @@ use Rattle.octets.specs.Octets.{written}
 use Rattle.rc4.specs.declared.Keyed.{Keyed}
 use Rattle.rc4.specs.declared.Ran.{Ran}
 use Rattle.rc4.specs.Answers.{runAnswer, runOut}
-use Rattle.mppe_keys.specs.declared.Strength.the-variants.{Bits128}
+use Rattle.mppe_keys.specs.declared.Strength.{Strength}
 use Rattle.mppe.specs.declared.Link.{Link}
 use Rattle.mppe.specs.declared.Outcome.{Outcome}
 use Rattle.mppe.specs.Link.{Result}
-use Rattle.bench.specs.Copied.{copied, linkAt}
+use Rattle.bench.specs.Copied.{copied, strengthOf, linkAt}
 
 -- the number and the octets of an answer, the octets copied into a buffer
 pub handed : {A : Type 0} (number : A → ℕ) (octets : A → List ℕ) {given said : A} {exit : List ℕ} (out : List ℕ) → given ≡ said
@@ -33,9 +34,9 @@ pub linked : (call : Link → List ℕ → List ℕ → Result) {given said : Li
 linked call text out e w =
     (ap (λ o. o .answer) (w .0) ∙ ap (λ l. call l text out .outcome .answer) e, w .1 ∙ ap (λ l. call l text out .buffer) e)
 
--- a record put together from two keys copied over zeros
-pub put-together : {first second : List ℕ} (start session : List ℕ) (count : ℕ) → first ≡ written (take 16 start) (replicate 16 0)
-    → second ≡ written (take 16 session) (replicate 16 0)
-    → record { strength = Bits128; start = first; session = second; count = count } ≡ linkAt start session count
+-- a record put together from a strength and two keys copied over zeros
+pub put-together : {s : Strength} {first second : List ℕ} (bits40 : Bool) (start session : List ℕ) (count : ℕ) → s ≡ strengthOf bits40
+    → first ≡ written (take 16 start) (replicate 16 0) → second ≡ written (take 16 session) (replicate 16 0)
+    → record { strength = s; start = first; session = second; count = count } ≡ linkAt bits40 start session count
 unfolding linkAt copied
-put-together start session count e f = rw (e, f)
+put-together bits40 start session count es e f = rw (es, e, f)

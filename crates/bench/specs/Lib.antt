@@ -1,1 +1,2 @@
+-- To be believed: what the public calls leave in a buffer, and the record that they start from.
 pub mod Copied

@@ -9,7 +9,7 @@ ghost use Rattle.rc4.specs.Answers.{keyedAnswer, runAnswer, runOut};
 ghost use Rattle.mppe_keys.specs.Answers.{keyChangesAnswer};
 ghost use Rattle.mppe_keys.specs.declared.Strength.the-variants.{Bits128};
 ghost use Rattle.mppe.specs.Link.{longestPlain, sealResult, openResult};
-ghost use Rattle.bench.specs.Copied.{copied, linkAt};
+ghost use Rattle.bench.specs.Copied.{copied, strengthOf, linkAt};
 use mppe::Link;
 use mppe_keys::Strength;
 use rc4::Rc4;
@@ -98,56 +98,70 @@ pub extern "C" fn bench_key_changes(start: &[u8], session: &[u8], n: usize, out:
     k.answer
 }
 
-// A plain packet sealed with a link of 128 bits.
+// A plain packet sealed with a link of 40 bits, or of 128.
 #[no_mangle]
 pub extern "C" fn bench_seal(
+    bits40: bool,
     start: &[u8],
     session: &[u8],
     count: u16,
     plain: &[u8],
     out: &mut [u8],
 ) -> u8
-    ensures { λ r. ⌜ (r ≡ sealResult longestPlain (linkAt (now (start .entry)) (now (session .entry)) count)
+    ensures { λ r. ⌜ (r ≡ sealResult longestPlain (linkAt bits40 (now (start .entry)) (now (session .entry)) count)
         (now (plain .entry)) (now (out .entry)) .outcome .answer)
-        × (now (out .exit) ≡ sealResult longestPlain (linkAt (now (start .entry)) (now (session .entry)) count)
+        × (now (out .exit) ≡ sealResult longestPlain (linkAt bits40 (now (start .entry)) (now (session .entry)) count)
         (now (plain .entry)) (now (out .entry)) .buffer) ⌝ }
 {
-    let link = link_at(start, session, count);
+    let link = link_at(bits40, start, session, count);
     let made = link.seal(plain, out);
     made.answer
 }
 
-// A sealed packet opened with a link of 128 bits.
+// A sealed packet opened with a link of 40 bits, or of 128.
 #[no_mangle]
 pub extern "C" fn bench_open(
+    bits40: bool,
     start: &[u8],
     session: &[u8],
     count: u16,
     packet: &[u8],
     out: &mut [u8],
 ) -> u8
-    ensures { λ r. ⌜ (r ≡ openResult longestPlain (linkAt (now (start .entry)) (now (session .entry)) count)
+    ensures { λ r. ⌜ (r ≡ openResult longestPlain (linkAt bits40 (now (start .entry)) (now (session .entry)) count)
         (now (packet .entry)) (now (out .entry)) .outcome .answer)
-        × (now (out .exit) ≡ openResult longestPlain (linkAt (now (start .entry)) (now (session .entry)) count)
+        × (now (out .exit) ≡ openResult longestPlain (linkAt bits40 (now (start .entry)) (now (session .entry)) count)
         (now (packet .entry)) (now (out .entry)) .buffer) ⌝ }
 {
-    let link = link_at(start, session, count);
+    let link = link_at(bits40, start, session, count);
     let made = link.open(packet, out);
     made.answer
 }
 
-// A link record of 128 bits of its parts, each key cut to 16 places or with zeros behind it.
-fn link_at(start: &[u8], session: &[u8], count: u16) -> Link
-    ensures { λ r. ⌜ r ≡ linkAt (now (start .entry)) (now (session .entry)) count ⌝ }
+// A link record of its parts, each key cut to 16 places or with zeros behind it.
+fn link_at(bits40: bool, start: &[u8], session: &[u8], count: u16) -> Link
+    ensures { λ r. ⌜ r ≡ linkAt bits40 (now (start .entry)) (now (session .entry)) count ⌝ }
 {
+    let strength = strength_of(bits40);
     let mut first = [0u8; 16];
     let mut second = [0u8; 16];
     octets::copy(start, &mut first);
     octets::copy(session, &mut second);
     Link {
-        strength: Strength::Bits128,
+        strength,
         start: first,
         session: second,
         count,
+    }
+}
+
+// 40 bits, or 128.
+fn strength_of(bits40: bool) -> Strength
+    ensures { λ r. ⌜ r ≡ strengthOf bits40 ⌝ }
+{
+    if bits40 {
+        Strength::Bits40
+    } else {
+        Strength::Bits128
     }
 }

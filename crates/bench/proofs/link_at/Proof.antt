@@ -3,6 +3,9 @@ use Rattle.bench.proofs.Laws.{put-together}
 use Rattle.bench.proofs.link_at.Statement.{statement}
 use Rattle.bench.proofs.link_at.Tie as tie
 
+strength-of-requires : tie.Need-strength-of-requires
+strength-of-requires c κs = search needs
+
 slice-aggregate-copy : tie.Need-slice-aggregate-copy
 slice-aggregate-copy c = search needs
 
@@ -16,9 +19,11 @@ copy-requires-2 : tie.Need-copy-requires-2
 copy-requires-2 c κs = search needs
 
 returns : tie.Need-returns
-returns c = put-together _ _ _ (c .before .before .before .before .copy .ensures) (c .before .copy2 .ensures)
+returns c = let second = c .before in
+    let first = second .before .before .before in
+    put-together _ _ _ _ (first .before .before .strength-of .ensures) (first .copy .ensures) (second .copy2 .ensures)
 
 pub link-at-spec : {M : Type 1} → statement M
 link-at-spec =
     tie.close
-    (tie.spec slice-aggregate-copy copy-requires slice-aggregate-copy-2 copy-requires-2 returns)
+    (tie.spec strength-of-requires slice-aggregate-copy copy-requires slice-aggregate-copy-2 copy-requires-2 returns)
