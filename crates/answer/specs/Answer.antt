@@ -57,3 +57,10 @@ firstOf (row ∷ rows) = pick (row .1) (row .0) (firstOf rows)
 abbrev pub onDone : {A : Type 0} → ℕ → A → A → A
 onDone zero result refused = result
 onDone (suc n) result refused = refused
+
+-- the number for one input of the one length named, and for two
+unfoldable pub oneCode : ℕ → List ℕ → ℕ
+oneCode n a = firstOf ((size, wrong n a) ∷ [])
+
+unfoldable pub twoCode : ℕ → List ℕ → ℕ → List ℕ → ℕ
+twoCode n a m b = firstOf ((size, wrong n a) ∷ (size, wrong m b) ∷ [])

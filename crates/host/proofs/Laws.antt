@@ -9,19 +9,20 @@ use lib.Dec.{eqb, ltb}
 use lib.ListN.{length, take, replicate, drop-of-length-le}
 use lib.Seq.{take-all, take-at}
 use borrow.Author.Tests.{eq-eqb, lt-ltb, le-ltb}
-use Rattle.answer.specs.Answer.{done, room, size, strength, pick, firstOf, onDone, wrong}
+use Rattle.answer.specs.Answer.{done, room, size, strength, pick, firstOf, onDone, wrong, oneCode, twoCode}
+use Rattle.answer.specs.Laws.{rows-pass, rows-stop, not-done, right}
 use Rattle.octets.specs.Octets.{written}
 use Rattle.mschap.specs.declared.Hash.{Hash}
 use Rattle.mschap.specs.Lengths.{longestPassword, responseLength}
 use Rattle.mschap.specs.Mschap.{passwordHash, hashHash}
-use Rattle.mschap.specs.Answers.{hashAnswer, passwordHashAnswer, hashHashAnswer}
+use Rattle.mschap.specs.Answers.{passwordRows, hashAnswer, passwordHashAnswer, hashHashAnswer}
 use Rattle.mschap.specs.Laws.{passwordHash-length, hashHash-length, hashHash-done}
 use Rattle.mppe_keys.specs.declared.Strength.{Strength}
 use Rattle.mppe_keys.specs.declared.Role.{Role}
 use Rattle.mppe_keys.specs.declared.Direction.{Direction}
 use Rattle.mppe_keys.specs.declared.Key.{Key}
 use Rattle.mppe_keys.specs.Keys.{bitsOf, keyLength, startKey, placed}
-use Rattle.mppe_keys.specs.Answers.{keyAnswer, oneCode, twoCode, masterKeyAnswer, startKeyAnswer}
+use Rattle.mppe_keys.specs.Answers.{keyAnswer, masterKeyAnswer, startKeyAnswer}
 use Rattle.mppe_keys.specs.Laws.{key-most, masterKey-length, startKey-length}
 use Rattle.ccp.specs.declared.Strengths.{Strengths}
 use Rattle.ccp.specs.declared.Choice.{Choice}
@@ -76,59 +77,36 @@ pub none-given : {code : ℕ} (result out : List ℕ) → code ≡ strength → 
 unfolding given
 none-given result out e = rw e (refl, refl)
 
--- the tests of a password, and the number of tests that are all rows of 3
-abbrev tooLong : List ℕ → Bool
-tooLong password = ltb longestPassword (length password)
-
-abbrev odd : List ℕ → Bool
-odd password = not (eqb (length password % 2) 0)
-
-abbrev two : Bool → Bool → ℕ
-two a b = pick a size (pick b size done)
-
-abbrev three : Bool → Bool → Bool → ℕ
-three a b c = pick a size (pick b size (pick c size done))
-
 -- credentials: a password that is refused, and one that is not
-refused-rows : (a b c : Bool) (hash key : List ℕ) → (two a b ≡ done → ⊥)
-    → _≡_ {A = Key} (record { answer = two a b; octets = onDone (two a b) hash (replicate 16 0) }) (keyAnswer (three a b c) key)
-unfolding keyAnswer
-refused-rows true b c hash key h = refl
-refused-rows false true c hash key h = refl
-refused-rows false false c hash key h = absurd (h refl)
-
 pub master-refused : {hash : Hash} (password response key : List ℕ) → hash ≡ passwordHashAnswer password → (hash .answer ≡ done → ⊥)
     → _≡_ {A = Key} (record { answer = hash .answer; octets = hash .octets }) (keyAnswer (firstOf (credentialRows password response)) key)
-unfolding passwordHashAnswer hashAnswer
+unfolding passwordHashAnswer hashAnswer keyAnswer
 master-refused password response key e h =
-    rw e
-    (refused-rows (tooLong password) (odd password) (wrong responseLength response) (passwordHash password) key
-    (λ z. h (ap (λ a. a .answer) e ∙ z)))
-
-rows-behind : (a b c : Bool) → two a b ≡ done → three a b c ≡ pick c size done
-rows-behind true b c h = absurd (suc-ne-zero 2 h)
-rows-behind false true c h = absurd (suc-ne-zero 2 h)
-rows-behind false false c h = refl
+    let code : ℕ = firstOf (passwordRows password) in
+    let some : code ≡ done → ⊥ = λ z. h (ap (λ a. a .answer) e ∙ z) in
+    let stop = rows-stop (passwordRows password) ((size, wrong responseLength response) ∷ []) some in
+    rw (e, stop, not-done code (passwordHash password) (replicate 16 0) some, not-done code (placed key) (replicate 16 0) some)
 
 pub master-made : {hash hashed : Hash} {key : Key} (password response : List ℕ) → hash ≡ passwordHashAnswer password → hash .answer ≡ done
     → hashed ≡ hashHashAnswer (hash .octets) → key ≡ masterKeyAnswer (hashed .octets) response
     → key ≡ keyAnswer (firstOf (credentialRows password response)) (masterKeyFrom password response)
 unfolding passwordHashAnswer hashAnswer masterKeyAnswer masterKeyFrom twoCode
 master-made {hash} {hashed} password response e h e′ ek =
-    let number : two (tooLong password) (odd password) ≡ done = sym (ap (λ a. a .answer) e) ∙ h in
+    let code : firstOf (passwordRows password) ≡ done = sym (ap (λ a. a .answer) e) ∙ h in
     let p : List ℕ = passwordHash password in
-    let first : hash .octets ≡ p = ap (λ a. a .octets) e ∙ rw number in
+    let first : hash .octets ≡ p = ap (λ a. a .octets) e ∙ rw code in
     let again = e′ ∙ ap hashHashAnswer first ∙ hashHash-done p (passwordHash-length password) in
     let second : hashed .octets ≡ hashHash p = ap (λ a. a .octets) again in
-    let last = rows-behind (tooLong password) (odd password) (wrong responseLength response) number in
-    ek ∙ rw (second, eq-eqb (length (hashHash p)) 16 (hashHash-length p), last)
+    let pass = rows-pass (passwordRows password) ((size, wrong responseLength response) ∷ []) refl code in
+    ek ∙ rw (second, right 16 (hashHash p) (hashHash-length p), pass)
 
 -- a master key that is refused, and one that is not
 pub start-refused : {master : Key} (code : ℕ) (m key : List ℕ) → master ≡ keyAnswer code m → (master .answer ≡ done → ⊥)
     → master ≡ keyAnswer code key
 unfolding keyAnswer
-start-refused zero m key e h = absurd (h (ap (λ a. a .answer) e))
-start-refused (suc n) m key e h = e
+start-refused code m key e h =
+    let some : code ≡ done → ⊥ = λ z. h (ap (λ a. a .answer) e ∙ z) in
+    e ∙ rw (not-done code (placed m) (replicate 16 0) some, not-done code (placed key) (replicate 16 0) some)
 
 placed-whole : (m : List ℕ) → length m ≡ 16 → placed m ≡ m
 unfolding placed
@@ -138,8 +116,10 @@ start-from : {master key : Key} (code : ℕ) (s : Strength) (role : Role) (direc
     → master .answer ≡ done → key ≡ startKeyAnswer s role direction (master .octets) → length m ≡ 16
     → key ≡ keyAnswer code (startKey s role direction m)
 unfolding keyAnswer startKeyAnswer oneCode
-start-from zero s role direction m e h ek hm = ek ∙ rw (e, placed-whole m hm, eq-eqb (length m) 16 hm)
-start-from (suc n) s role direction m e h ek hm = absurd (suc-ne-zero 2 (sym (ap (λ a. a .answer) e) ∙ h))
+start-from code s role direction m e h ek hm =
+    let zero : code ≡ done = sym (ap (λ a. a .answer) e) ∙ h in
+    let octets = ap (λ a. a .octets) e ∙ rw (zero, placed-whole m hm) in
+    ek ∙ rw (octets, zero, right 16 m hm)
 
 pub start-made : {master key : Key} (s : Strength) (role : Role) (direction : Direction) (password response : List ℕ)
     → master ≡ keyAnswer (firstOf (credentialRows password response)) (masterKeyFrom password response) → master .answer ≡ done
@@ -155,13 +135,11 @@ pub key-fits : {n : ℕ} (s : Strength) (key : List ℕ) → length key ≡ 16 �
 key-fits s key h e = omega (arith, key-most s)
 
 -- .. and is given over
-key-given : (a b c : Bool) (n : ℕ) (key out : List ℕ) → length key ≡ n
-    → given (keyAnswer (three a b c) key .answer) (take n (keyAnswer (three a b c) key .octets)) out ≡ given (three a b c) key out
+key-given : (code n : ℕ) (key out : List ℕ) → length key ≡ n
+    → given (keyAnswer code key .answer) (take n (keyAnswer code key .octets)) out ≡ given code key out
 unfolding keyAnswer given placed
-key-given true b c n key out h = refl
-key-given false true c n key out h = refl
-key-given false false true n key out h = refl
-key-given false false false n key out h = rw (take-at key (replicate (16 - length key) 0) n h)
+key-given zero n key out h = rw (take-at key (replicate (16 - length key) 0) n h)
+key-given (suc code) n key out h = refl
 
 pub start-given : {s : Strength} {role : Role} {direction : Direction} {key : Key} {out′ : List ℕ} {n r : ℕ} (bits : ℕ)
     (server send : Bool) (password response out : List ℕ) → noStrength bits ≡ false → s ≡ strengthOf bits → role ≡ roleOf server
@@ -172,7 +150,7 @@ unfolding startKeyGiven startKeyFrom
 start-given {s} {role} {direction} {key} {n = n} bits server send password response out h es er ed ek en w =
     let k : List ℕ = startKeyFrom s role direction password response in
     let size : length k ≡ n = startKey-length s role direction (masterKeyFrom password response) ∙ sym en in
-    let whole = key-given (tooLong password) (odd password) (wrong responseLength response) n k out size in
+    let whole = key-given (firstOf (credentialRows password response)) n k out size in
     let same : given (key .answer) (take n (key .octets)) out ≡ given (firstOf (credentialRows password response)) k out = rw ek whole in
     told (same ∙ rw (h, es, er, ed)) w
 

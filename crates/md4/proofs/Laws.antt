@@ -6,16 +6,17 @@ use Prim.Native.Nat.{ℕ, _*_, _/_, _%_, _^_, _≤_, _<_}
 use native.Mathlib.Nat.{mod-lt}
 use native.Mathlib.Omega.{arith}
 use lib.Dec.{T, ltb, eqb, eqb→eq}
-use lib.ListN.{length, getD}
+use lib.ListN.{length, getD, replicate}
 use borrow.Author.Tests.{lt-ltb, le-ltb}
 use Rattle.octets.specs.Octets.{wordLE, longestText}
 use Rattle.octets.specs.Words.{_⊞_, rotl}
 use Rattle.octets.specs.declared.Order.the-variants.{LowestFirst}
 use Rattle.octets.proofs.Below.{both, both-left, both-right, below}
-use Rattle.answer.specs.Answer.{done, pick}
+use Rattle.answer.specs.Answer.{done, size, pick}
 use Rattle.blocks.specs.Blocks.{rounds, hashed}
 use Rattle.blocks.proofs.Laws.{add-swap, rounds-add}
-use Rattle.md4.specs.Md4.{mixed, constant, places, shift, operation, added, compress, initial, octetsIn, md4, refusal, md4Answer}
+use Rattle.md4.specs.Md4.{mixed, constant, places, shift, operation, added, compress, initial, octetsIn, md4, md4Answer}
+use Rattle.md4.specs.Laws.{md4-done}
 use Rattle.md4.specs.declared.State.{State}
 use Rattle.md4.specs.declared.Digest.{Digest}
 
@@ -69,17 +70,8 @@ unfolding compress
 block-done s block e₁ e₂ e₃ er =
     rw (er, e₃, e₂, e₁, rounds-add (operation block) 0 16 16 s, rounds-add (operation block) 0 32 16 s)
 
--- what callers cite: a text within the limit is answered with its digest, of 16 octets
-pub md4-done : (m : List ℕ) → length m ≤ longestText → md4Answer m ≡ record { answer = done; octets = md4 m }
-unfolding md4Answer
-md4-done m h = rw (le-ltb longestText (length m) h)
-
-pub length-md4 : (m : List ℕ) → length (md4 m) ≡ 16
-unfolding md4
-length-md4 m = refl
-
 -- the two ways out of the call
-pub too-long : (m : List ℕ) → longestText < length m → refusal ≡ md4Answer m
+pub too-long : (m : List ℕ) → longestText < length m → record { answer = size; octets = replicate 16 0 } ≡ md4Answer m
 unfolding md4Answer
 too-long m h = rw (lt-ltb longestText (length m) h)
 

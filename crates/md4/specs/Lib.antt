@@ -1,2 +1,4 @@
--- To be believed: MD4, and what the public call answers.
+-- Definitions that the contract of the public call cites: what a reader must believe.
 pub mod Md4
+-- Laws.
+pub mod Laws

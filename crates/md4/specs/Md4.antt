@@ -4,7 +4,7 @@ use Prim.Native.Nat.{ℕ, _*_, _%_}
 use lib.Bits.{bitAnd, bitOr, bitXor}
 use lib.Dec.{ltb}
 use lib.ListN.{length, getD, replicate}
-use Rattle.answer.specs.Answer.{done, size, pick, firstOf, onDone}
+use Rattle.answer.specs.Answer.{size, pick, firstOf, onDone}
 use Rattle.octets.specs.declared.Order.the-variants.{LowestFirst}
 use Rattle.octets.specs.Octets.{wordLE, wordsOf, longestText}
 use Rattle.octets.specs.Words.{_⊞_, rotl, complement}
@@ -68,13 +68,10 @@ octetsIn s = wordsOf LowestFirst (s .a ∷ s .b ∷ s .c ∷ s .d ∷ [])
 unfoldable pub md4 : List ℕ → List ℕ
 md4 m = octetsIn (hashed compress LowestFirst initial m)
 
--- what a longer text is answered: 3 and zeros
-abbrev pub refusal : Digest
-refusal = record { answer = size; octets = replicate 16 0 }
-
--- what the call answers
+-- the number that the call answers
 abbrev pub md4Code : List ℕ → ℕ
 md4Code m = firstOf ((size, ltb longestText (length m)) ∷ [])
 
+-- the answer to a text of any length; a refused one has zeros
 unfoldable pub md4Answer : List ℕ → Digest
-md4Answer m = onDone (md4Code m) (record { answer = done; octets = md4 m }) refusal
+md4Answer m = record { answer = md4Code m; octets = onDone (md4Code m) (md4 m) (replicate 16 0) }

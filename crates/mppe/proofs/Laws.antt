@@ -10,7 +10,7 @@ use lib.ListN.{length, take, drop, getD, replicate, drop-of-length-le, length-ap
 use lib.Seq.{drop-cons, drop-drop, drop-length, take-all, take-at, drop-at, length-take-le}
 use borrow.Author.Tests.{lt-ltb, le-ltb, eq-eqb, ne-eqb, ltb-true, ltb-false, eqb-false, not-true, not-false}
 use borrow.Rule.Slice.PartMut.{putMid}
-use Rattle.answer.specs.Answer.{done, shape, room, size, protocol, flags, repeat, notRecord, outside, wrong, firstOf, onDone}
+use Rattle.answer.specs.Answer.{done, shape, room, size, protocol, flags, repeat, notRecord, outside, wrong, firstOf, onDone, oneCode}
 use Rattle.answer.specs.Laws.{clear, rows-pass, rows-stop, not-done, outside-low, within, right, right-length}
 use Rattle.octets.specs.Octets.{written}
 use Rattle.rc4.specs.declared.Rc4.{Rc4}
@@ -20,13 +20,13 @@ use Rattle.rc4.specs.Answers.{keyedAnswer, runOut}
 use Rattle.rc4.specs.Laws.{keyed-done, run-done}
 use Rattle.mppe_keys.specs.declared.Strength.{Strength}
 use Rattle.mppe_keys.specs.declared.Key.{Key}
-use Rattle.mppe_keys.specs.Keys.{keyLength, headOf, changes, initialKey, rc4}
-use Rattle.mppe_keys.specs.Answers.{keyAnswer, oneCode, initialKeyAnswer, placedChanges}
+use Rattle.mppe_keys.specs.Keys.{keyLength, headOf, begins, changes, initialKey, rc4}
+use Rattle.mppe_keys.specs.Answers.{keyAnswer, initialKeyAnswer, placedChanges}
 use Rattle.mppe_keys.specs.Laws.{key-least, key-most, keyChange-length, changes-one}
 use Rattle.mppe_keys.proofs.Laws.{key-placed}
 use Rattle.mppe.specs.declared.Link.{Link}
 use Rattle.mppe.specs.declared.Outcome.{Outcome}
-use Rattle.mppe.specs.Link.{shortestPlain, longestPlain, front, counts, newCount, zeros, begins, wellFormed, startKeyIn, sessionKeyIn, renewed, newLink, newLinkCode, offProtocol, bitA, bitD, header, sealedPacket, headerIn, dataIn, countOf, lacks, Result, refusal, plainRows, nextCount, nextKey, sealCode, sealResult, changesFor, keyFor, plainFor, linkAfter, frontRows, headerRows, dataRows, openCode, openResult}
+use Rattle.mppe.specs.Link.{shortestPlain, longestPlain, front, counts, newCount, zeros, wellFormed, startKeyIn, sessionKeyIn, renewed, newLink, newLinkCode, offProtocol, bitA, bitD, header, sealedPacket, headerIn, dataIn, countOf, lacks, Result, refusal, plainRows, nextCount, nextKey, sealCode, sealResult, changesFor, keyFor, plainFor, linkAfter, frontRows, headerRows, dataRows, openCode, openResult}
 use Rattle.mppe.specs.Inner.{frontCode, headerCode, dataResult}
 use Rattle.mppe.specs.Laws.{both, key-back}
 
@@ -42,40 +42,6 @@ zeros-not l i e some h = sym (e ∙ rw (drop-cons l i 0 h, ne-eqb (getD l i 0) 0
 pub zeros-end : {b : Bool} (l : List ℕ) (i : ℕ) → b ≡ zeros (drop i l) → length l ≤ i → true ≡ b
 unfolding zeros
 zeros-end l i e h = sym (e ∙ rw (drop-of-length-le l {i = i} h))
-
--- a test and one that holds
-itself : (t : Bool) → t ≡ t && true
-itself true = refl
-itself false = refl
-
--- a session key that begins with one octet, or with three, of which the first or the second may be another
-pub one-begins : (s : Strength) (a : ℕ) (l : List ℕ) → headOf s ≡ a ∷ [] → 1 ≤ length l → eqb (getD l 0 0) a ≡ begins (headOf s) l
-unfolding begins
-one-begins s a [] e h = absurd (omega arith)
-one-begins s a (x ∷ l) e h = rw e (itself (eqb x a))
-
-pub none-begins : (s : Strength) (l : List ℕ) → headOf s ≡ [] → true ≡ begins (headOf s) l
-unfolding begins
-none-begins s l e = rw e
-
-pub first-other : (s : Strength) (a b c : ℕ) (l : List ℕ) → headOf s ≡ a ∷ b ∷ c ∷ [] → (getD l 0 0 ≡ a → ⊥) → false ≡ begins (headOf s) l
-unfolding begins
-first-other s a b c [] e other = rw e
-first-other s a b c (x ∷ l) e other = rw (e, ne-eqb x a other)
-
-pub second-other : (s : Strength) (a b c : ℕ) (l : List ℕ) → headOf s ≡ a ∷ b ∷ c ∷ [] → getD l 0 0 ≡ a → (getD l 1 0 ≡ b → ⊥) → false ≡ begins (headOf s) l
-unfolding begins
-second-other s a b c [] e first other = rw e
-second-other s a b c (x ∷ []) e first other = rw (e, eq-eqb x a first)
-second-other s a b c (x ∷ y ∷ l) e first other = rw (e, eq-eqb x a first, ne-eqb y b other)
-
-pub three-begin : (s : Strength) (a b c : ℕ) (l : List ℕ) → headOf s ≡ a ∷ b ∷ c ∷ [] → getD l 0 0 ≡ a → getD l 1 0 ≡ b → 3 ≤ length l
-    → eqb (getD l 2 0) c ≡ begins (headOf s) l
-unfolding begins
-three-begin s a b c [] e first second h = absurd (omega arith)
-three-begin s a b c (x ∷ []) e first second h = absurd (omega arith)
-three-begin s a b c (x ∷ y ∷ []) e first second h = absurd (omega arith)
-three-begin s a b c (x ∷ y ∷ z ∷ l) e first second h = rw (e, eq-eqb x a first, eq-eqb y b second) (itself (eqb z c))
 
 -- a protocol number below its limits, and one that is not
 pub protocol-low : {r n : ℕ} → r ≡ n → r < 0x0021 → true ≡ outside 0x0021 0x00FA n
@@ -117,12 +83,8 @@ pair-runs s (x ∷ y ∷ text) e er h = er ∙ rw (e, run-done s (x ∷ y ∷ []
 
 -- a start key of a wrong length, and one of the right one
 new-code : {k : Key} (s : Strength) (start : List ℕ) → k ≡ initialKeyAnswer s start → k .answer ≡ newLinkCode s start
-unfolding initialKeyAnswer oneCode
-new-code s start e = ap (λ (k : Key). k .answer) e ∙ told (wrong (keyLength s) start)
-  where
-    told : (t : Bool) → keyAnswer (firstOf ((size, t) ∷ [])) (initialKey s start) .answer ≡ firstOf ((size, t) ∷ [])
-    told true = unfold keyAnswer in refl
-    told false = unfold keyAnswer in refl
+unfolding initialKeyAnswer keyAnswer oneCode
+new-code s start e = ap (λ (k : Key). k .answer) e
 
 pub new-refused : {k : Key} (s : Strength) (start : List ℕ) → k ≡ initialKeyAnswer s start → (k .answer ≡ done → ⊥)
     → record { answer = size; link = record { strength = s; start = replicate 16 0; session = replicate 16 0; count = 0 } } ≡ newLink s start

@@ -10,8 +10,8 @@ use borrow.Author.Tests.{lt-ltb, eq-eqb}
 use Rattle.rc4.specs.Cipher.{keySchedule}
 use Rattle.rc4.specs.Laws.{run-length}
 use Rattle.mppe_keys.specs.declared.Strength.{Strength}
-use Rattle.mppe_keys.specs.Keys.{keyLength, headOf, placed}
-use Rattle.mppe.specs.Link.{front, counts, newCount, zeros, begins, wellFormed, linkOf, bitA, bitD, sealedPacket, headerIn, countOf, lacks, distance, farthest}
+use Rattle.mppe_keys.specs.Keys.{keyLength, headOf, begins, placed}
+use Rattle.mppe.specs.Link.{front, counts, newCount, zeros, wellFormed, linkOf, bitA, bitD, sealedPacket, headerIn, countOf, lacks, distance, farthest}
 
 -- both of two tests hold
 pub both : (a b : Bool) → a && b ≡ true → (a ≡ true) × (b ≡ true)

@@ -8,7 +8,7 @@ use lib.ListN.{length, take, drop, getD, replicate}
 use Rattle.answer.specs.Answer.{done, shape, room, size, protocol, flags, repeat, notRecord, pick, outside, wrong, firstOf, onDone}
 use Rattle.octets.specs.Octets.{bigEndian, pairAt, written}
 use Rattle.mppe_keys.specs.declared.Strength.{Strength}
-use Rattle.mppe_keys.specs.Keys.{keyLength, headOf, initialKey, rc4, keyChange, changes, placed}
+use Rattle.mppe_keys.specs.Keys.{keyLength, headOf, begins, initialKey, rc4, keyChange, changes, placed}
 use Rattle.mppe.specs.declared.Link.{Link}
 use Rattle.mppe.specs.declared.NewLink.{NewLink}
 use Rattle.mppe.specs.declared.Outcome.{Outcome}
@@ -32,12 +32,6 @@ counts = 4096
 unfoldable pub zeros : List ℕ → Bool
 zeros [] = true
 zeros (x ∷ xs) = eqb x 0 && zeros xs
-
--- a list begins with another
-unfoldable pub begins : List ℕ → List ℕ → Bool
-begins [] l = true
-begins (h ∷ hs) [] = false
-begins (h ∷ hs) (x ∷ xs) = eqb x h && begins hs xs
 
 -- "Well formed: count at most 4,095; at 40 and 56 bits the last eight places of both keys are 0; the session key begins as
 -- reduce leaves it." At 128 bits no place is left behind the key, and reduce leaves every beginning.

@@ -7,8 +7,8 @@ ghost use lib.ListN.{length, drop};
 ghost use Rattle.answer.specs.Answer.{outside};
 ghost use Rattle.octets.specs.Octets.{written};
 ghost use Rattle.rc4.specs.Cipher.{keySchedule, run};
-ghost use Rattle.mppe_keys.specs.Keys.{headOf, changes as changesOf};
-ghost use Rattle.mppe.specs.Link.{shortestPlain, longestPlain, front, counts, zeros, begins, wellFormed, newLink, startKeyIn, sessionKeyIn, renewed, offProtocol, header, distance as distanceOf, refusal, sealCode, sealResult, openResult};
+ghost use Rattle.mppe_keys.specs.Keys.{changes as changesOf};
+ghost use Rattle.mppe.specs.Link.{shortestPlain, longestPlain, front, counts, zeros, wellFormed, newLink, startKeyIn, sessionKeyIn, renewed, offProtocol, header, distance as distanceOf, refusal, sealCode, sealResult, openResult};
 ghost use Rattle.mppe.specs.Inner.{frontCode, headerCode, dataResult};
 use mppe_keys::Strength;
 use mppe_keys::key_length;
@@ -236,7 +236,7 @@ fn well_formed(link: Link) -> bool
     if !zeros_from(session, n) {
         return false;
     }
-    begins_reduced(strength, session)
+    mppe_keys::begins_reduced(strength, session)
 }
 
 // Whether all places from one on are 0.
@@ -251,25 +251,6 @@ fn zeros_from(places: [u8; 16], from: usize) -> bool
         i += 1;
     }
     true
-}
-
-// Whether a session key begins as reducing leaves it.
-fn begins_reduced(strength: Strength, session: [u8; 16]) -> bool
-    ensures { λ r. ⌜ r ≡ begins (headOf strength) session ⌝ }
-{
-    match strength {
-        Strength::Bits40 => {
-            if session[0] != 0xD1 {
-                return false;
-            }
-            if session[1] != 0x26 {
-                return false;
-            }
-            session[2] == 0x9E
-        }
-        Strength::Bits56 => session[0] == 0xD1,
-        Strength::Bits128 => true,
-    }
 }
 
 // Whether the protocol number of two octets is one that is not carried.

@@ -10,7 +10,7 @@ use lib.ListN.{length, take, drop, getD, replicate, length-append, length-drop, 
 use lib.Seq.{take-all, take-at, drop-at, take-append-seam, drop-append-seam, drop-append-add, drop-append-le, drop-cons, drop-drop, drop-length, getD-take, length-take-le}
 use borrow.Author.Tests.{le-ltb, eq-eqb, ne-eqb}
 use borrow.Rule.Slice.PartMut.{putMid}
-use Rattle.answer.specs.Answer.{pick}
+use Rattle.answer.specs.Answer.{pick, oneCode, twoCode}
 use Rattle.octets.specs.Octets.{written, longestText}
 use Rattle.sha1.specs.declared.Digest.{Digest}
 use Rattle.sha1.specs.Sha1.{sha1, sha1Answer}
@@ -23,8 +23,9 @@ use Rattle.mppe_keys.specs.declared.Strength.the-variants.{Bits40, Bits5
 use Rattle.mppe_keys.specs.declared.Role.{Role}
 use Rattle.mppe_keys.specs.declared.Direction.{Direction}
 use Rattle.mppe_keys.specs.declared.Key.{Key}
-use Rattle.mppe_keys.specs.Keys.{keyLength, magic1, magic2, magic3, fromClient, phrase, masterKey, startKey, initialKey, padded, newKey, headOf, begins, reduced, rc4, keyChange, changes, placed}
-use Rattle.mppe_keys.specs.Answers.{refusal, keyAnswer, oneCode, twoCode, keyChangeAnswer, keyChangesAnswer, placedChanges, Changed}
+use Rattle.mppe_keys.specs.Keys.{keyLength, magic1, magic2, magic3, fromClient, phrase, masterKey, startKey, initialKey, keyText, newKey, headOf, begins, reduced, rc4, keyChange, changes, placed}
+use Rattle.mppe_keys.specs.Answers.{keyAnswer, keyChangeAnswer, keyChangesAnswer, placedChanges}
+use Rattle.mppe_keys.specs.Inner.{refusedKey, Changed}
 use Rattle.mppe_keys.specs.Laws.{key-least, key-most, head-most, reduced-length, keyChange-length, changes-length, changes-one, changes-add}
 
 -- the digest of a text within its limit
@@ -71,8 +72,8 @@ master-laid z a b x ex e₁ e₂ e₃ ha hb hz =
 -- what is hashed for a key of two parts
 pub text-put : {t₁ t₂ t₃ t₄ : List ℕ} (out a b : List ℕ) → t₁ ≡ take 0 out ++ a ++ drop (0 + length a) out
     → t₂ ≡ take (length a) t₁ ++ replicate 40 0 ++ drop (length a + 40) t₁ → t₃ ≡ take (length a + 40) t₂ ++ b ++ drop (length a + 40 + length b) t₂
-    → t₄ ≡ take (length a + 40 + length b) t₃ ++ replicate 40 0xF2 ++ drop (length a + 40 + length b + 40) t₃ → t₄ ≡ written (padded a b) out
-unfolding padded
+    → t₄ ≡ take (length a + 40 + length b) t₃ ++ replicate 40 0xF2 ++ drop (length a + 40 + length b + 40) t₃ → t₄ ≡ written (keyText a b) out
+unfolding keyText
 text-put out a b e₁ e₂ e₃ e₄ =
     let g₁ = grown [] out a 0 refl e₁ refl in
     let g₂ = grown a out (replicate 40 0) (length a) g₁ e₂ refl in
@@ -91,7 +92,7 @@ pub from-server : (role : Role) (direction : Direction) → fromClient role dire
 from-server role direction h = rw h
 
 pub phrase-hashed : {digest : List ℕ} (role : Role) (direction : Direction) (master p : List ℕ) → p ≡ phrase role direction
-    → digest ≡ sha1 (padded master p) → digest ≡ sha1 (padded master (phrase role direction))
+    → digest ≡ sha1 (keyText master p) → digest ≡ sha1 (keyText master (phrase role direction))
 phrase-hashed role direction master p ep e = rw (e, ep)
 
 -- the octets that are fixed
@@ -157,16 +158,16 @@ next-put s interim out ek e₁ e₂ li h =
     (e₂, e₁, ek, keyed, run-done (keySchedule interim) interim out (omega (arith, key-most s)) (omega arith) .1, reduced-front s next (drop (length next) out) size, reduced-length s next size, size)
 
 -- a text that is hashed: its length, and its parts
-padded-length : (a b : List ℕ) → length (padded a b) ≡ length a + length b + 80
-unfolding padded
+padded-length : (a b : List ℕ) → length (keyText a b) ≡ length a + length b + 80
+unfolding keyText
 padded-length a b = simp length-append (omega arith)
 
-padded-parts : (a b rest : List ℕ) → padded a b ++ rest ≡ (a ++ replicate 40 0) ++ (b ++ (replicate 40 0xF2 ++ rest))
-unfolding padded
+padded-parts : (a b rest : List ℕ) → keyText a b ++ rest ≡ (a ++ replicate 40 0) ++ (b ++ (replicate 40 0xF2 ++ rest))
+unfolding keyText
 padded-parts a b rest = simp append-assoc
 
-pub padded-front : (a b rest : List ℕ) (n : ℕ) → length a + length b + 80 ≡ n → take n (padded a b ++ rest) ≡ padded a b
-padded-front a b rest n h = take-at (padded a b) rest n (padded-length a b ∙ h)
+pub padded-front : (a b rest : List ℕ) (n : ℕ) → length a + length b + 80 ≡ n → take n (keyText a b ++ rest) ≡ keyText a b
+padded-front a b rest n h = take-at (keyText a b) rest n (padded-length a b ∙ h)
 
 -- a part of a buffer exchanged for another of its length
 replaced : {text ys : List ℕ} (front old tail new : List ℕ) (at : ℕ) → text ≡ front ++ (old ++ tail)
@@ -194,26 +195,26 @@ rest-room at k l h =
     omega (arith, length-take-le (length l - at) (drop at l) (omega arith))
 
 -- what is hashed of a buffer that a text was written into
-pub text-room : {text : List ℕ} (first second out : List ℕ) → text ≡ written (padded first second) out → length first + length second + 80 ≤ length text
+pub text-room : {text : List ℕ} (first second out : List ℕ) → text ≡ written (keyText first second) out → length first + length second + 80 ≤ length text
 text-room first second out e = rw e (simp length-append (omega (arith, padded-length first second)))
 
-pub front-hashed : {text digest : List ℕ} (first second out : List ℕ) → text ≡ written (padded first second) out
-    → digest ≡ sha1 (take (length first + length second + 80) text) → digest ≡ sha1 (padded first second)
-front-hashed first second out et ed = rw (ed, et, padded-front first second (drop (length (padded first second)) out) (length first + length second + 80) refl)
+pub front-hashed : {text digest : List ℕ} (first second out : List ℕ) → text ≡ written (keyText first second) out
+    → digest ≡ sha1 (take (length first + length second + 80) text) → digest ≡ sha1 (keyText first second)
+front-hashed first second out et ed = rw (ed, et, padded-front first second (drop (length (keyText first second)) out) (length first + length second + 80) refl)
 
 -- the keys that are the front of a digest
-pub new-done : {k : ℕ} {digest octets : List ℕ} (s : Strength) (start session : List ℕ) → k ≡ keyLength s → digest ≡ sha1 (padded start session)
+pub new-done : {k : ℕ} {digest octets : List ℕ} (s : Strength) (start session : List ℕ) → k ≡ keyLength s → digest ≡ sha1 (keyText start session)
     → octets ≡ placed (take k digest) → octets ≡ placed (newKey s start session)
 unfolding newKey
 new-done s start session ek ed eo = rw (eo, ed, ek)
 
-pub initial-done : {k : ℕ} {digest octets : List ℕ} (s : Strength) (start : List ℕ) → k ≡ keyLength s → digest ≡ sha1 (padded start start)
+pub initial-done : {k : ℕ} {digest octets : List ℕ} (s : Strength) (start : List ℕ) → k ≡ keyLength s → digest ≡ sha1 (keyText start start)
     → octets ≡ placed (reduced s (take k digest)) → octets ≡ placed (initialKey s start)
 unfolding initialKey newKey
 initial-done s start ek ed eo = rw (eo, ed, ek)
 
 pub start-done : {k : ℕ} {digest octets : List ℕ} (s : Strength) (role : Role) (direction : Direction) (master : List ℕ) → k ≡ keyLength s
-    → digest ≡ sha1 (padded master (phrase role direction)) → octets ≡ placed (take k digest) → octets ≡ placed (startKey s role direction master)
+    → digest ≡ sha1 (keyText master (phrase role direction)) → octets ≡ placed (take k digest) → octets ≡ placed (startKey s role direction master)
 unfolding startKey
 start-done s role direction master ek ed eo = rw (eo, ed, ek)
 
@@ -223,7 +224,7 @@ unfolding masterKey
 master-done hashHash response et ed eo = rw (eo, ed, et)
 
 -- a key change in a text that is hashed
-interim-made : {k : ℕ} {text digest : List ℕ} (s : Strength) (start session rest : List ℕ) → k ≡ keyLength s → text ≡ padded start session ++ rest
+interim-made : {k : ℕ} {text digest : List ℕ} (s : Strength) (start session rest : List ℕ) → k ≡ keyLength s → text ≡ keyText start session ++ rest
     → digest ≡ sha1 (take (2 * k + 80) text) → length start ≡ keyLength s → length session ≡ keyLength s → take k digest ≡ newKey s start session
 unfolding newKey
 interim-made {k} s start session rest ek et ed hs hn = rw (ed, et, padded-front start session rest (2 * k + 80) (omega arith), ek)
@@ -252,14 +253,14 @@ changed-more s i text text′ text″ e e′ start session rest hs hn et =
 
 -- the session key that stands in such a text
 pub session-part : (k : ℕ) (start key rest : List ℕ) → length start ≡ k → length key ≡ k
-    → take (2 * k + 40 - (k + 40)) (drop (k + 40) (padded start key ++ rest)) ≡ key
+    → take (2 * k + 40 - (k + 40)) (drop (k + 40) (keyText start key ++ rest)) ≡ key
 session-part k start key rest hs hk =
     let size : 2 * k + 40 - (k + 40) ≡ k = omega arith in
     let front : length (start ++ replicate 40 0) ≡ k + 40 = length-append start (replicate 40 0) ∙ omega arith in
     rw
     (size, padded-parts start key rest, drop-at (start ++ replicate 40 0) (key ++ (replicate 40 0xF2 ++ rest)) (k + 40) front, take-at key (replicate 40 0xF2 ++ rest) k hk)
 
-pub key-changed : {k : ℕ} {text key : List ℕ} (s : Strength) (start session rest text′ : List ℕ) (n : ℕ) → k ≡ keyLength s → text ≡ padded start session ++ rest
+pub key-changed : {k : ℕ} {text key : List ℕ} (s : Strength) (start session rest text′ : List ℕ) (n : ℕ) → k ≡ keyLength s → text ≡ keyText start session ++ rest
     → Changed s n text text′ → key ≡ placed (take (2 * k + 40 - (k + 40)) (drop (k + 40) text′)) → length start ≡ keyLength s → length session ≡ keyLength s
     → key ≡ placed (changes s start n session)
 unfolding Changed
@@ -279,7 +280,7 @@ unfolding placedChanges
 places-changed s start session n ek e = rw (e, ek)
 
 -- the ways out of a call with one length
-pub one-wrong : (n : ℕ) (a key : List ℕ) → (length a ≡ n → ⊥) → refusal ≡ keyAnswer (oneCode n a) key
+pub one-wrong : (n : ℕ) (a key : List ℕ) → (length a ≡ n → ⊥) → refusedKey ≡ keyAnswer (oneCode n a) key
 unfolding keyAnswer oneCode
 one-wrong n a key h = rw (ne-eqb (length a) n h)
 
@@ -289,11 +290,11 @@ unfolding keyAnswer oneCode
 one-right n a key h e = rw (eq-eqb (length a) n h, e)
 
 -- the ways out of a call with two
-pub two-wrong : (n : ℕ) (a : List ℕ) (m : ℕ) (b key : List ℕ) → (length a ≡ n → ⊥) → refusal ≡ keyAnswer (twoCode n a m b) key
+pub two-wrong : (n : ℕ) (a : List ℕ) (m : ℕ) (b key : List ℕ) → (length a ≡ n → ⊥) → refusedKey ≡ keyAnswer (twoCode n a m b) key
 unfolding keyAnswer twoCode
 two-wrong n a m b key h = rw (ne-eqb (length a) n h)
 
-pub two-wrong-next : (n : ℕ) (a : List ℕ) (m : ℕ) (b key : List ℕ) → length a ≡ n → (length b ≡ m → ⊥) → refusal ≡ keyAnswer (twoCode n a m b) key
+pub two-wrong-next : (n : ℕ) (a : List ℕ) (m : ℕ) (b key : List ℕ) → length a ≡ n → (length b ≡ m → ⊥) → refusedKey ≡ keyAnswer (twoCode n a m b) key
 unfolding keyAnswer twoCode
 two-wrong-next n a m b key h h′ = rw (eq-eqb (length a) n h, ne-eqb (length b) m h′)
 

@@ -68,16 +68,16 @@ abbrev pub phrase : Role → Direction → List ℕ
 phrase role direction = pick (fromClient role direction) magic2 magic3
 
 -- what is hashed for a key: two parts, with 40 zeros between them and 40 octets 0xF2 behind
-unfoldable pub padded : List ℕ → List ℕ → List ℕ
-padded first second = first ++ replicate 40 0 ++ second ++ replicate 40 0xF2
+unfoldable pub keyText : List ℕ → List ℕ → List ℕ
+keyText first second = first ++ replicate 40 0 ++ second ++ replicate 40 0xF2
 
 -- "Start key: first n of SHA-1(master key, 40 zeros, phrase, 40 octets 0xF2)"
 unfoldable pub startKey : Strength → Role → Direction → List ℕ → List ℕ
-startKey s role direction master = take (keyLength s) (sha1 (padded master (phrase role direction)))
+startKey s role direction master = take (keyLength s) (sha1 (keyText master (phrase role direction)))
 
 -- "New-key(start, session): first n of SHA-1(start, 40 zeros, session, 40 octets 0xF2)"
 unfoldable pub newKey : Strength → List ℕ → List ℕ → List ℕ
-newKey s start session = take (keyLength s) (sha1 (padded start session))
+newKey s start session = take (keyLength s) (sha1 (keyText start session))
 
 -- "at 40 bits the first octets become D1 26 9E, at 56 bits D1, at 128 nothing"
 unfoldable pub headOf : Strength → List ℕ

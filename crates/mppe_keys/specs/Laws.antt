@@ -13,7 +13,7 @@ use Rattle.mppe_keys.specs.declared.Strength.{Strength}
 use Rattle.mppe_keys.specs.declared.Strength.the-variants.{Bits40, Bits56, Bits128}
 use Rattle.mppe_keys.specs.declared.Role.{Role}
 use Rattle.mppe_keys.specs.declared.Direction.{Direction}
-use Rattle.mppe_keys.specs.Keys.{keyLength, magic1, masterKey, phrase, padded, startKey, newKey, headOf, reduced, initialKey, keyChange, changes, placed}
+use Rattle.mppe_keys.specs.Keys.{keyLength, magic1, masterKey, phrase, keyText, startKey, newKey, headOf, reduced, initialKey, keyChange, changes, placed}
 
 -- a key has 8 to 16 octets
 pub key-least : (s : Strength) → 8 ≤ keyLength s
@@ -51,11 +51,11 @@ front-length s m = length-take-le (keyLength s) (sha1 m) (omega (arith, sha1-len
 pub startKey-length : (s : Strength) (role : Role) (direction : Direction) (master : List ℕ)
     → length (startKey s role direction master) ≡ keyLength s
 unfolding startKey
-startKey-length s role direction master = front-length s (padded master (phrase role direction))
+startKey-length s role direction master = front-length s (keyText master (phrase role direction))
 
 pub newKey-length : (s : Strength) (start session : List ℕ) → length (newKey s start session) ≡ keyLength s
 unfolding newKey
-newKey-length s start session = front-length s (padded start session)
+newKey-length s start session = front-length s (keyText start session)
 
 pub reduced-length : (s : Strength) (key : List ℕ) → length key ≡ keyLength s → length (reduced s key) ≡ keyLength s
 unfolding reduced

@@ -1,5 +1,7 @@
--- To be believed: MPPE's keys, and what the public calls answer. Only private functions cite `Changed` at the end of Answers.
+-- Definitions that the contracts of public calls cite: what a reader must believe.
 pub mod Keys
 pub mod Answers
--- Laws, proved.
+-- What only private functions promise.
+pub mod Inner
+-- Laws.
 pub mod Laws

@@ -5,8 +5,9 @@ ghost use Prim.Native.Nat.{_+_, _-_, _≤_};
 ghost use lib.ListN.{length, take, drop, replicate};
 ghost use Rattle.octets.specs.Octets.{written, longestText};
 ghost use Rattle.sha1.specs.Sha1.{sha1 as digestOf};
-ghost use Rattle.mppe_keys.specs.Keys.{keyLength, magic1, fromClient, phrase, padded, headOf, begins, reduced, rc4, changes, placed as placedKey};
-ghost use Rattle.mppe_keys.specs.Answers.{refusal, masterKeyAnswer, startKeyAnswer, newKeyAnswer, initialKeyAnswer, reduceAnswer, keyChangeAnswer, keyChangesAnswer, placedChanges, Changed};
+ghost use Rattle.mppe_keys.specs.Keys.{keyLength, magic1, fromClient, phrase, keyText, headOf, begins, reduced, rc4, changes, placed as placedKey};
+ghost use Rattle.mppe_keys.specs.Answers.{masterKeyAnswer, startKeyAnswer, newKeyAnswer, initialKeyAnswer, reduceAnswer, keyChangeAnswer, keyChangesAnswer, placedChanges};
+ghost use Rattle.mppe_keys.specs.Inner.{refusedKey, Changed};
 use octets::copy;
 use octets::copy_at;
 use rc4::Rc4;
@@ -196,7 +197,7 @@ fn key_octets(strength: Strength) -> usize
 
 // The answer to a wrong length.
 fn refused() -> Key
-    ensures { λ r. ⌜ r ≡ refusal ⌝ }
+    ensures { λ r. ⌜ r ≡ refusedKey ⌝ }
 {
     Key {
         answer: answer::SIZE,
@@ -219,7 +220,7 @@ fn master_text(hash: &[u8], response: &[u8]) -> [u8; 67]
 // The digest that a start key is the front of.
 fn start_digest(role: Role, direction: Direction, master: &[u8]) -> [u8; 20]
     requires { ⌜ length (now master) ≡ 16 ⌝ }
-    ensures { λ r. ⌜ r ≡ digestOf (padded (now (master .entry)) (phrase role direction)) ⌝ }
+    ensures { λ r. ⌜ r ≡ digestOf (keyText (now (master .entry)) (phrase role direction)) ⌝ }
 {
     if from_client(role, direction) {
         key_digest(
@@ -253,7 +254,7 @@ fn from_client(role: Role, direction: Direction) -> bool
 // The digest that a key of two parts is the front of.
 fn key_digest(first: &[u8], second: &[u8]) -> [u8; 20]
     requires { ⌜ (length (now first) ≤ 16) × (length (now second) ≤ 84) ⌝ }
-    ensures { λ r. ⌜ r ≡ digestOf (padded (now (first .entry)) (now (second .entry))) ⌝ }
+    ensures { λ r. ⌜ r ≡ digestOf (keyText (now (first .entry)) (now (second .entry))) ⌝ }
 {
     let mut text = [0u8; 180];
     put_key_text(first, second, &mut text);
@@ -263,7 +264,7 @@ fn key_digest(first: &[u8], second: &[u8]) -> [u8; 20]
 // Writes what is hashed for a key of two parts into the front of a buffer.
 fn put_key_text(first: &[u8], second: &[u8], out: &mut [u8])
     requires { ⌜ length (now first) + length (now second) + 80 ≤ length (now out) ⌝ }
-    ensures { λ _. ⌜ now (out .exit) ≡ written (padded (now (first .entry)) (now (second .entry))) (now (out .entry)) ⌝ }
+    ensures { λ _. ⌜ now (out .exit) ≡ written (keyText (now (first .entry)) (now (second .entry))) (now (out .entry)) ⌝ }
 {
     let middle = first.len() + 40;
     put(first, 0, out);

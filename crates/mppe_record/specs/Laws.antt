@@ -12,10 +12,10 @@ use Rattle.answer.specs.Answer.{done, size, notRecord, firstOf, onDone}
 use Rattle.octets.specs.Octets.{bigEndian, pairAt}
 use Rattle.mppe_keys.specs.declared.Strength.{Strength}
 use Rattle.mppe_keys.specs.declared.Strength.the-variants.{Bits40, Bits56, Bits128}
-use Rattle.mppe_keys.specs.Keys.{bitsOf, keyLength, headOf, initialKey}
+use Rattle.mppe_keys.specs.Keys.{bitsOf, keyLength, headOf, begins, initialKey}
 use Rattle.mppe_keys.specs.Laws.{key-most, placed-length, initialKey-length, keyChange-length, changes-length}
 use Rattle.mppe.specs.declared.Link.{Link}
-use Rattle.mppe.specs.Link.{zeros, begins, wellFormed, Result, startKeyIn, sessionKeyIn, linkOf, newCount, newLink, refusal, sealCode, sealResult, nextKey, headerIn, changesFor, keyFor, openCode, openResult}
+use Rattle.mppe.specs.Link.{zeros, wellFormed, Result, startKeyIn, sessionKeyIn, linkOf, newCount, newLink, refusal, sealCode, sealResult, nextKey, headerIn, changesFor, keyFor, openCode, openResult}
 use Rattle.mppe_record.specs.declared.RecordRead.{RecordRead}
 use Rattle.mppe_record.specs.Record.{strengthOf, noStrength, recordLength, recordOctets, recordIn, noRecord, recordRead}
 

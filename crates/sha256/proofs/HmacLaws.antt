@@ -1,4 +1,4 @@
--- What the proofs of HMAC cite: the key's block, a block padded octet by octet, a digest that goes on behind a block.
+-- What the proofs of HMAC cite: the key's block, a block xored octet by octet, a digest that goes on behind a block.
 use mathlib.Core.Path.{_≡_, refl, _∙_}
 use mathlib.Core.List.{List, _++_, map-append, append-assoc, append-nil}
 use Prim.Native.Nat.{ℕ, suc, _+_, _-_, _≤_, _<_}
@@ -13,8 +13,9 @@ use Rattle.octets.specs.declared.Order.the-variants.{HighestFirst}
 use Rattle.blocks.specs.Blocks.{closed}
 use Rattle.blocks.proofs.Laws.{hashed-behind-one}
 use Rattle.octets.specs.Laws.{drop-zeros}
-use Rattle.sha256.specs.Sha256.{compress, initial, octetsIn, sha256, refusal}
-use Rattle.sha256.specs.Hmac.{keyBlock, padded, ipad, opad, hmac, hmacAnswer}
+use Rattle.sha256.specs.Sha256.{compress, initial, octetsIn, sha256}
+use Rattle.sha256.specs.Inner.{refusedDigest}
+use Rattle.sha256.specs.Hmac.{keyBlock, xored, ipad, opad, hmac, hmacAnswer}
 use Rattle.sha256.specs.declared.State.{State}
 use Rattle.sha256.specs.declared.Digest.{Digest}
 
@@ -32,18 +33,18 @@ unfolding keyBlock
 key-long key ed e h =
     e ∙ rw (ed, take-all 64 (sha256 key) (omega (arith, length-sha256 key)), drop-zeros, lt-ltb 64 (length key) h)
 
--- one octet more is padded
-pub padded-more : {out : List ℕ} (pad : ℕ) (block : List ℕ) (i : ℕ) → out ≡ padded pad (take i block) ++ drop i block → i < length block
-    → set out i (bitXor (getD out i 0) pad) ≡ padded pad (take (i + 1) block) ++ drop (i + 1) block
-padded-more pad block i e h =
-    let l : length (padded pad (take i block)) ≡ i = length-map (take i block) (λ x. bitXor x pad) ∙ length-take-le i block (omega arith) in
+-- one octet more is xored
+pub xored-more : {out : List ℕ} (pad : ℕ) (block : List ℕ) (i : ℕ) → out ≡ xored pad (take i block) ++ drop i block → i < length block
+    → set out i (bitXor (getD out i 0) pad) ≡ xored pad (take (i + 1) block) ++ drop (i + 1) block
+xored-more pad block i e h =
+    let l : length (xored pad (take i block)) ≡ i = length-map (take i block) (λ x. bitXor x pad) ∙ length-take-le i block (omega arith) in
     rw
-    (e, drop-cons block i 0 h, getD-at (padded pad (take i block)) (getD block i 0) (drop (suc i) block) 0 i l, set-at (padded pad (take i block)) (getD block i 0) (drop (suc i) block) (bitXor (getD block i 0) pad) i l, add-one, take-suc block i 0 h, map-append, append-assoc)
+    (e, drop-cons block i 0 h, getD-at (xored pad (take i block)) (getD block i 0) (drop (suc i) block) 0 i l, set-at (xored pad (take i block)) (getD block i 0) (drop (suc i) block) (bitXor (getD block i 0) pad) i l, add-one, take-suc block i 0 h, map-append, append-assoc)
 
 -- all are
-pub padded-all : {out : List ℕ} (pad : ℕ) (block : List ℕ) (i : ℕ) → out ≡ padded pad (take i block) ++ drop i block → i ≡ length block
-    → out ≡ padded pad block
-padded-all pad block i e h = e ∙ rw (h, take-length, drop-length, append-nil)
+pub xored-all : {out : List ℕ} (pad : ℕ) (block : List ℕ) (i : ℕ) → out ≡ xored pad (take i block) ++ drop i block → i ≡ length block
+    → out ≡ xored pad block
+xored-all pad block i e h = e ∙ rw (h, take-length, drop-length, append-nil)
 
 -- a digest that goes on behind a block
 pub behind : {i h r : State} {o : List ℕ} (block text : List ℕ) → length block ≡ 64 → i ≡ initial → h ≡ compress i block
@@ -52,15 +53,15 @@ unfolding sha256
 behind block text l ei eh er eo = rw (hashed-behind-one compress HighestFirst initial block text l, ← ei, ← eh, ← er) eo
 
 -- the ways out of the call
-pub key-too-long : {r : Digest} (key text : List ℕ) → longestText < length key → r ≡ refusal → r ≡ hmacAnswer key text
+pub key-too-long : {r : Digest} (key text : List ℕ) → longestText < length key → r ≡ refusedDigest → r ≡ hmacAnswer key text
 unfolding hmacAnswer
 key-too-long key text h e = rw (lt-ltb longestText (length key) h) e
 
-pub text-too-long : {r : Digest} (key text : List ℕ) → length key ≤ longestText → longestText < length text → r ≡ refusal → r ≡ hmacAnswer key text
+pub text-too-long : {r : Digest} (key text : List ℕ) → length key ≤ longestText → longestText < length text → r ≡ refusedDigest → r ≡ hmacAnswer key text
 unfolding hmacAnswer
 text-too-long key text hk h e = rw (le-ltb longestText (length key) hk, lt-ltb longestText (length text) h) e
 
-pub coded : {b p q inner o : List ℕ} (key text : List ℕ) → b ≡ keyBlock key → p ≡ padded ipad b → inner ≡ sha256 (p ++ text) → q ≡ padded opad b
+pub coded : {b p q inner o : List ℕ} (key text : List ℕ) → b ≡ keyBlock key → p ≡ xored ipad b → inner ≡ sha256 (p ++ text) → q ≡ xored opad b
     → o ≡ sha256 (q ++ inner) → length key ≤ longestText → length text ≤ longestText
     → _≡_ {A = Digest} (record { answer = 0; octets = o }) (hmacAnswer key text)
 unfolding hmacAnswer hmac

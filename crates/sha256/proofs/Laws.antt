@@ -12,7 +12,8 @@ use Rattle.octets.specs.Words.{_⊞_}
 use Rattle.octets.specs.declared.Order.the-variants.{HighestFirst}
 use Rattle.blocks.specs.Blocks.{schedule, rounds, closed}
 use Rattle.blocks.proofs.Laws.{add-swap, rounds-add, closed-alone}
-use Rattle.sha256.specs.Sha256.{ch, maj, Σ₀, Σ₁, k, lateWord, nextWord, round, added, compress, initial, octetsIn, sha256, refusal, sha256Answer}
+use Rattle.sha256.specs.Sha256.{ch, maj, Σ₀, Σ₁, k, lateWord, nextWord, round, added, compress, initial, octetsIn, sha256, sha256Answer}
+use Rattle.sha256.specs.Inner.{refusedDigest}
 use Rattle.sha256.specs.declared.State.{State}
 use Rattle.sha256.specs.declared.Digest.{Digest}
 
@@ -59,7 +60,7 @@ unfolding sha256
 digest-is m ei eh eo = rw (← closed-alone compress HighestFirst initial m, ← ei, ← eh) eo
 
 -- the two ways out of the call
-pub too-long : {r : Digest} (m : List ℕ) → longestText < length m → r ≡ refusal → r ≡ sha256Answer m
+pub too-long : {r : Digest} (m : List ℕ) → longestText < length m → r ≡ refusedDigest → r ≡ sha256Answer m
 unfolding sha256Answer
 too-long m h e = rw (lt-ltb longestText (length m) h) e
 

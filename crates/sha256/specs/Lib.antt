@@ -1,3 +1,5 @@
--- To be believed: SHA-256 and HMAC, and what the public calls answer.
+-- Definitions that the contracts of public calls cite: what a reader must believe.
 pub mod Sha256
 pub mod Hmac
+-- What only private functions promise.
+pub mod Inner

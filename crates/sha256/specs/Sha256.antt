@@ -4,7 +4,7 @@ use Prim.Native.Nat.{ℕ, _*_, _-_, _/_, _^_}
 use lib.Bits.{bitAnd, bitXor}
 use lib.Dec.{ltb}
 use lib.ListN.{length, getD, replicate}
-use Rattle.answer.specs.Answer.{done, size, pick, firstOf, onDone}
+use Rattle.answer.specs.Answer.{size, pick, firstOf, onDone}
 use Rattle.octets.specs.declared.Order.the-variants.{HighestFirst}
 use Rattle.octets.specs.Octets.{wordBE, wordsOf, longestText}
 use Rattle.octets.specs.Words.{_⊞_, rotr, complement}
@@ -112,13 +112,10 @@ octetsIn s = wordsOf HighestFirst (s .a ∷ s .b ∷ s .c ∷ s .d ∷ s .e ∷ 
 unfoldable pub sha256 : List ℕ → List ℕ
 sha256 m = octetsIn (hashed compress HighestFirst initial m)
 
--- what a longer text is answered: 3 and zeros
-abbrev pub refusal : Digest
-refusal = record { answer = size; octets = replicate 32 0 }
-
--- what the call answers
+-- the number that the call answers
 abbrev pub sha256Code : List ℕ → ℕ
 sha256Code m = firstOf ((size, ltb longestText (length m)) ∷ [])
 
+-- the answer to a text of any length; a refused one has zeros
 unfoldable pub sha256Answer : List ℕ → Digest
-sha256Answer m = onDone (sha256Code m) (record { answer = done; octets = sha256 m }) refusal
+sha256Answer m = record { answer = sha256Code m; octets = onDone (sha256Code m) (sha256 m) (replicate 32 0) }

@@ -1,11 +1,11 @@
-// HMAC over SHA-256 (RFC 2104). No text is copied: each hash goes on from the state after the padded key's block.
+// HMAC over SHA-256 (RFC 2104). No text is copied: each hash goes on from the state after the block of the key and its pad.
 ghost use mathlib.Core.Path.{_≡_};
 ghost use mathlib.Core.List.{_++_};
 ghost use Prim.Native.Nat.{_≤_};
 ghost use lib.ListN.{length};
 ghost use Rattle.octets.specs.Octets.{longestText};
 ghost use Rattle.sha256.specs.Sha256.{sha256 as digestOf};
-ghost use Rattle.sha256.specs.Hmac.{keyBlock, padded as paddedBy, hmacAnswer};
+ghost use Rattle.sha256.specs.Hmac.{keyBlock, xored as xoredBy, hmacAnswer};
 use crate::Digest;
 use crate::closed;
 use crate::compress;
@@ -30,10 +30,10 @@ pub fn hmac_sha256(key: &[u8], text: &[u8]) -> Digest
         return refused();
     }
     let block = key_block(key);
-    let inner = digest_behind(padded(block, IPAD), text);
+    let inner = digest_behind(xored(block, IPAD), text);
     Digest {
         answer: answer::DONE,
-        octets: digest_behind(padded(block, OPAD), &inner),
+        octets: digest_behind(xored(block, OPAD), &inner),
     }
 }
 
@@ -53,8 +53,8 @@ fn key_block(key: &[u8]) -> [u8; 64]
 }
 
 // A block, each octet XORed with a pad.
-fn padded(block: [u8; 64], pad: u8) -> [u8; 64]
-    ensures { λ r. ⌜ r ≡ paddedBy pad block ⌝ }
+fn xored(block: [u8; 64], pad: u8) -> [u8; 64]
+    ensures { λ r. ⌜ r ≡ xoredBy pad block ⌝ }
 {
     let mut out = block;
     let mut i = 0;

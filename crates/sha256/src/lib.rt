@@ -8,7 +8,8 @@ ghost use lib.ListN.{length};
 ghost use Rattle.blocks.specs.Blocks.{schedule as words, rounds, absorbed as afterBlocks, closed as closedBy};
 ghost use Rattle.octets.specs.declared.Order.the-variants.{HighestFirst};
 ghost use Rattle.octets.specs.Octets.{wordBE, longestText};
-ghost use Rattle.sha256.specs.Sha256.{bigSigma, smallSigma, k as constants, initial as initialValue, lateWord, nextWord, round as roundOf, added as sums, compress as compressed, octetsIn, refusal, sha256Answer};
+ghost use Rattle.sha256.specs.Sha256.{bigSigma, smallSigma, k as constants, initial as initialValue, lateWord, nextWord, round as roundOf, added as sums, compress as compressed, octetsIn, sha256Answer};
+ghost use Rattle.sha256.specs.Inner.{refusedDigest};
 use octets::LONGEST_TEXT;
 use octets::Order;
 use octets::add;
@@ -115,7 +116,7 @@ pub fn sha256(text: &[u8]) -> Digest
 
 // What a text that is too long is answered.
 fn refused() -> Digest
-    ensures { λ r. ⌜ r ≡ refusal ⌝ }
+    ensures { λ r. ⌜ r ≡ refusedDigest ⌝ }
 {
     Digest {
         answer: answer::SIZE,

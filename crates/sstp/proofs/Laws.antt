@@ -6,14 +6,15 @@ use native.Mathlib.Omega.{arith}
 use lib.ListN.{length, take, replicate, length-append, length-take, length-replicate}
 use lib.Seq.{take-all}
 use borrow.Author.Tests.{lt-ltb, le-ltb, eq-eqb, ne-eqb}
+use Rattle.answer.specs.Answer.{twoCode}
 use Rattle.octets.specs.Octets.{written, writtenAt, longestText}
 use Rattle.octets.specs.Laws.{drop-zeros, append-more}
 use Rattle.sha256.specs.declared.Digest.{Digest}
 use Rattle.sha256.specs.Hmac.{hmacAnswer}
 use Rattle.mppe_keys.specs.declared.Role.{Role}
-use Rattle.mppe_keys.specs.Answers.{twoCode}
 use Rattle.sstp.specs.declared.Key.{Key}
-use Rattle.sstp.specs.Binding.{baseKey, fitted, seed, lengthOctets, bindingKey, refusal, keyAnswer, baseKeyAnswer, bindingKeyAnswer}
+use Rattle.sstp.specs.Binding.{baseKey, fitted, seed, lengthOctets, bindingKey, keyAnswer, baseKeyAnswer, bindingKeyAnswer}
+use Rattle.sstp.specs.Inner.{refusedKey}
 
 -- two start keys over zeros
 pub pair-laid : {k₁ k₂ : List ℕ} (first second : List ℕ) → k₁ ≡ written (take 32 first) (replicate 32 0)
@@ -36,12 +37,12 @@ fitted-length material =
     ∙ omega (arith, length-take 32 material, length-replicate {A = ℕ} (32 - length material) 0)
 
 -- the ways out of the base key
-pub send-wrong : (role : Role) (send receive : List ℕ) → (length send ≡ 16 → ⊥) → refusal ≡ baseKeyAnswer role send receive
+pub send-wrong : (role : Role) (send receive : List ℕ) → (length send ≡ 16 → ⊥) → refusedKey ≡ baseKeyAnswer role send receive
 unfolding baseKeyAnswer keyAnswer twoCode
 send-wrong role send receive h = rw (ne-eqb (length send) 16 h)
 
 pub receive-wrong : (role : Role) (send receive : List ℕ) → length send ≡ 16 → (length receive ≡ 16 → ⊥)
-    → refusal ≡ baseKeyAnswer role send receive
+    → refusedKey ≡ baseKeyAnswer role send receive
 unfolding baseKeyAnswer keyAnswer twoCode
 receive-wrong role send receive hs hr = rw (eq-eqb (length send) 16 hs, ne-eqb (length receive) 16 hr)
 
@@ -51,7 +52,7 @@ unfolding baseKeyAnswer keyAnswer twoCode
 base-done role send receive er hs hr e = rw (er, eq-eqb (length send) 16 hs, eq-eqb (length receive) 16 hr, e)
 
 -- the ways out of the binding key
-pub too-long : (material : List ℕ) → longestText < length material → refusal ≡ bindingKeyAnswer material
+pub too-long : (material : List ℕ) → longestText < length material → refusedKey ≡ bindingKeyAnswer material
 unfolding bindingKeyAnswer keyAnswer
 too-long material h = rw (lt-ltb longestText (length material) h)
 

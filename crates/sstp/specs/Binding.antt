@@ -4,13 +4,12 @@ use mathlib.Core.List.{List, [], _∷_, _++_}
 use Prim.Native.Nat.{ℕ, _-_}
 use lib.Dec.{ltb}
 use lib.ListN.{length, take, replicate}
-use Rattle.answer.specs.Answer.{done, size, firstOf, onDone}
+use Rattle.answer.specs.Answer.{size, firstOf, onDone, twoCode}
 use Rattle.octets.specs.declared.Order.the-variants.{LowestFirst}
 use Rattle.octets.specs.Octets.{octetsOf, longestText}
 use Rattle.sha256.specs.Hmac.{hmac}
 use Rattle.mppe_keys.specs.declared.Role.{Role}
 use Rattle.mppe_keys.specs.declared.Role.the-variants.{Client, Server}
-use Rattle.mppe_keys.specs.Answers.{twoCode}
 use Rattle.sstp.specs.declared.Key.{Key}
 
 -- step 1, HLAK: "client's send start key then receive start key"; "the server puts receive first"
@@ -40,13 +39,9 @@ k14 = refl
 unfoldable pub bindingKey : List ℕ → List ℕ
 bindingKey material = hmac (fitted material) (seed ++ lengthOctets ++ 0x01 ∷ [])
 
--- what a wrong length is answered: 3 and zeros
-abbrev pub refusal : Key
-refusal = record { answer = size; octets = replicate 32 0 }
-
--- what is answered: the key, or the refusal
+-- what is answered: the number, and the key; a refused one has zeros
 unfoldable pub keyAnswer : ℕ → List ℕ → Key
-keyAnswer code key = onDone code (record { answer = done; octets = key }) refusal
+keyAnswer code key = record { answer = code; octets = onDone code key (replicate 32 0) }
 
 -- start keys have 16 octets
 unfoldable pub baseKeyAnswer : Role → List ℕ → List ℕ → Key

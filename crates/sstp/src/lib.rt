@@ -2,7 +2,8 @@
 ghost use mathlib.Core.Path.{_≡_};
 ghost use mathlib.Core.List.{_++_};
 ghost use lib.ListN.{length};
-ghost use Rattle.sstp.specs.Binding.{fitted as fittedMaterial, refusal, baseKeyAnswer, bindingKeyAnswer};
+ghost use Rattle.sstp.specs.Binding.{fitted as fittedMaterial, baseKeyAnswer, bindingKeyAnswer};
+ghost use Rattle.sstp.specs.Inner.{refusedKey};
 use mppe_keys::KEY_PLACES;
 use mppe_keys::Role;
 use octets::LONGEST_TEXT;
@@ -54,7 +55,7 @@ pub fn binding_key(material: &[u8]) -> Key
 
 // The answer to a wrong length.
 fn refused() -> Key
-    ensures { λ r. ⌜ r ≡ refusal ⌝ }
+    ensures { λ r. ⌜ r ≡ refusedKey ⌝ }
 {
     Key {
         answer: answer::SIZE,

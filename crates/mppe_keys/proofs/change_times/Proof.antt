@@ -4,7 +4,7 @@ use native.Mathlib.Omega.{arith}
 use lib.ListN.{length}
 use borrow.Author.Needs.{needs}
 use Rattle.mppe_keys.proofs.Laws.{changed-none, changed-more}
-use Rattle.mppe_keys.specs.Answers.{Changed}
+use Rattle.mppe_keys.specs.Inner.{Changed}
 use Rattle.mppe_keys.proofs.change_times.Statement.{statement}
 use Rattle.mppe_keys.proofs.change_times.Tie as tie
 

@@ -18,14 +18,14 @@ returns-2 c = text-too-long _ _ (c .before .before .if1 .left) (c .before .if2 .
 key-block-requires : tie.Need-key-block-requires
 key-block-requires c κs = search needs
 
-padded-requires : tie.Need-padded-requires
-padded-requires c κs = search needs
+xored-requires : tie.Need-xored-requires
+xored-requires c κs = search needs
 
 digest-behind-requires : tie.Need-digest-behind-requires
 digest-behind-requires c κs = search needs
 
-padded-requires-2 : tie.Need-padded-requires-2
-padded-requires-2 c κs = search needs
+xored-requires-2 : tie.Need-xored-requires-2
+xored-requires-2 c κs = search needs
 
 slice-aggregate-digest-behind : tie.Need-slice-aggregate-digest-behind
 slice-aggregate-digest-behind c = search needs
@@ -34,7 +34,7 @@ digest-behind-requires-2 : tie.Need-digest-behind-requires-2
 digest-behind-requires-2 c κs = search needs
 
 returns-3 : tie.Need-returns-3
-returns-3 c = coded _ _ (c .before .before .before .before .before .key-block .ensures) (c .before .before .before .before .padded .ensures) (c .before .before .before .digest-behind .ensures) (c .before .before .padded2 .ensures) (c .digest-behind2 .ensures) (c .before .before .before .before .before .before .before .if1 .left) (c .before .before .before .before .before .before .if2 .left)
+returns-3 c = coded _ _ (c .before .before .before .before .before .key-block .ensures) (c .before .before .before .before .xored .ensures) (c .before .before .before .digest-behind .ensures) (c .before .before .xored2 .ensures) (c .digest-behind2 .ensures) (c .before .before .before .before .before .before .before .if1 .left) (c .before .before .before .before .before .before .if2 .left)
 
 pub hmac-sha256-spec : {M : Type 1} → statement M
 hmac-sha256-spec =
@@ -45,9 +45,9 @@ hmac-sha256-spec =
     refused-requires-2
     returns-2
     key-block-requires
-    padded-requires
+    xored-requires
     digest-behind-requires
-    padded-requires-2
+    xored-requires-2
     slice-aggregate-digest-behind
     digest-behind-requires-2
     returns-3)

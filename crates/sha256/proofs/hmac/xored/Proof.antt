@@ -4,13 +4,13 @@ use Prim.Native.Nat.{_-_, _≤_}
 use native.Mathlib.Omega.{arith}
 use lib.ListN.{length-set, length, take, drop}
 use borrow.Author.Needs.{needs}
-use Rattle.sha256.proofs.HmacLaws.{padded-all, padded-more}
-use Rattle.sha256.specs.Hmac.{padded}
-use Rattle.sha256.proofs.hmac.padded.Statement.{statement}
-use Rattle.sha256.proofs.hmac.padded.Tie as tie
+use Rattle.sha256.proofs.HmacLaws.{xored-all, xored-more}
+use Rattle.sha256.specs.Hmac.{xored}
+use Rattle.sha256.proofs.hmac.xored.Statement.{statement}
+use Rattle.sha256.proofs.hmac.xored.Tie as tie
 
 abbrev Inv-loop : tie.InvT-loop
-Inv-loop pad out₀ i₀ out i = (length out ≡ 64) × (i ≤ 64) × (length out₀ ≡ 64) × (out ≡ padded pad (take i out₀) ++ drop i out₀)
+Inv-loop pad out₀ i₀ out i = (length out ≡ 64) × (i ≤ 64) × (length out₀ ≡ 64) × (out ≡ xored pad (take i out₀) ++ drop i out₀)
 
 abbrev μ-loop : tie.MeasureT-loop
 μ-loop pad out₀ i₀ out i = 64 - i
@@ -32,14 +32,14 @@ loop-less c = search needs
 
 loop-again : tie.Need-loop-again Inv-loop μ-loop
 loop-again c = let l = c .before .loop in
-    (simp length-set (l .inv .0), omega arith, l .inv .2, padded-more _ _ (l .i) (l .inv .3) (omega arith))
+    (simp length-set (l .inv .0), omega arith, l .inv .2, xored-more _ _ (l .i) (l .inv .3) (omega arith))
 
 returns : tie.Need-returns Inv-loop μ-loop
 returns c = let l = c .before .loop in
-    padded-all _ _ (l .i) (l .inv .3) (omega arith)
+    xored-all _ _ (l .i) (l .inv .3) (omega arith)
 
-pub padded-spec : {M : Type 1} → statement M
-padded-spec =
+pub xored-spec : {M : Type 1} → statement M
+xored-spec =
     tie.close
     (tie.spec
     Inv-loop
