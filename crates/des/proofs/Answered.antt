@@ -5,11 +5,12 @@ use Prim.Native.Nat.{ℕ, _+_, _*_, _^_}
 use borrow.Author.Tests.{eq-eqb, ne-eqb}
 use lib.ListN.{length, replicate}
 use Rattle.answer.specs.Answer.{done, size}
-use Rattle.octets.specs.Octets.{bigEndian}
+use Rattle.octets.specs.Octets.{bigEndian, fromBigEndian}
 use Rattle.des.specs.declared.Block.{Block}
 use Rattle.des.specs.declared.Halves.{Halves}
 use Rattle.des.specs.Tables.{initial, inverse}
-use Rattle.des.specs.Des.{selected, iterated, enciphered, joined, encrypted, keyOctets, blockOctets, encryptAnswer}
+use Rattle.des.specs.Des.{selected, iterated, enciphered, encrypted, keyOctets, blockOctets, encryptAnswer}
+use Rattle.des.specs.Laws.{encrypt-done}
 
 pub enciphered-is : (key x s l r y : ℕ) (h : Halves) → s ≡ selected 64 initial x → h ≡ iterated key s 16 → r ≡ h .right → l ≡ h .left
     → y ≡ selected 64 inverse (r * 2 ^ 32 + l) → y ≡ enciphered key x
@@ -25,17 +26,7 @@ pub wrong-block : (key block : List ℕ) (r : Block) → length key ≡ keyOctet
 unfolding encryptAnswer
 wrong-block key block r hk h e = e ∙ rw (eq-eqb (length key) keyOctets hk, ne-eqb (length block) blockOctets h)
 
--- what callers cite: a key and a block of the right lengths are answered with the block enciphered, of 8 octets
-pub encrypt-done : (key block : List ℕ) → length key ≡ keyOctets → length block ≡ blockOctets
-    → encryptAnswer key block ≡ record { answer = done; octets = encrypted key block }
-unfolding encryptAnswer
-encrypt-done key block hk hb = rw (eq-eqb (length key) keyOctets hk, eq-eqb (length block) blockOctets hb)
-
-pub length-encrypted : (key block : List ℕ) → length (encrypted key block) ≡ blockOctets
-unfolding encrypted
-length-encrypted key block = refl
-
-pub answered : (key block octets : List ℕ) (k x y : ℕ) → length key ≡ keyOctets → length block ≡ blockOctets → k ≡ joined 0 key → x ≡ joined 0 block → y ≡ enciphered k x
+pub answered : (key block octets : List ℕ) (k x y : ℕ) → length key ≡ keyOctets → length block ≡ blockOctets → k ≡ fromBigEndian key → x ≡ fromBigEndian block → y ≡ enciphered k x
     → octets ≡ bigEndian blockOctets y → _≡_ {A = Block} (record { answer = done; octets = octets }) (encryptAnswer key block)
 unfolding encrypted
 answered key block octets k x y hk hb ek ex ey e = rw (encrypt-done key block hk hb, e, ey, ek, ex)

@@ -5,7 +5,7 @@ use Prim.Native.Nat.{ℕ, zero, suc, _+_, _-_, _*_, _/_, _%_, _^_}
 use lib.Bits.{bitXor}
 use lib.ListN.{getD, replicate}
 use Rattle.answer.specs.Answer.{size, firstOf, onDone, wrong}
-use Rattle.octets.specs.Octets.{bigEndian}
+use Rattle.octets.specs.Octets.{bigEndian, fromBigEndian}
 use Rattle.des.specs.declared.Block.{Block}
 use Rattle.des.specs.declared.Halves.{Halves}
 use Rattle.des.specs.Tables.{initial, inverse, expansion, permutation, boxes, choice1C, choice1D, choice2, shifts}
@@ -71,14 +71,9 @@ preoutput h = h .right * 2 ^ 32 + h .left
 unfoldable pub enciphered : ℕ → ℕ → ℕ
 enciphered key x = selected 64 inverse (preoutput (iterated key (selected 64 initial x) 16))
 
--- the block of bits that follows a and is that of the octets
-abbrev pub joined : ℕ → List ℕ → ℕ
-joined a [] = a
-joined a (x ∷ xs) = joined (a * 256 + x) xs
-
 -- a block of octets enciphered under a key of octets
 unfoldable pub encrypted : List ℕ → List ℕ → List ℕ
-encrypted key block = bigEndian 8 (enciphered (joined 0 key) (joined 0 block))
+encrypted key block = bigEndian 8 (enciphered (fromBigEndian key) (fromBigEndian block))
 
 -- octets in a key, without parity bits (01, "Lengths")
 abbrev pub keyOctets : ℕ
@@ -89,13 +84,13 @@ abbrev pub blockOctets : ℕ
 blockOctets = 8
 
 -- the number that the call answers
-abbrev pub encryptNumber : List ℕ → List ℕ → ℕ
-encryptNumber key block = firstOf ((size, wrong keyOctets key) ∷ (size, wrong blockOctets block) ∷ [])
+abbrev pub encryptCode : List ℕ → List ℕ → ℕ
+encryptCode key block = firstOf ((size, wrong keyOctets key) ∷ (size, wrong blockOctets block) ∷ [])
 
 -- the answer to a key and a block of any lengths
 unfoldable pub encryptAnswer : List ℕ → List ℕ → Block
 encryptAnswer key block =
     record {
-      answer = encryptNumber key block;
-      octets = onDone (encryptNumber key block) (encrypted key block) (replicate blockOctets 0);
+      answer = encryptCode key block;
+      octets = onDone (encryptCode key block) (encrypted key block) (replicate blockOctets 0);
     }

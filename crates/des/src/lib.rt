@@ -6,16 +6,17 @@ use tables::P_PARTS;
 use tables::PC2_C_PARTS;
 use tables::PC2_D_PARTS;
 use tables::S_BOXES;
+use octets::Order;
 ghost use mathlib.Core.Path.{_≡_};
 ghost use mathlib.Core.List.{_∷_, [], _++_, map};
 ghost use Prim.Native.Nat.{ℕ, _+_, _-_, _*_, _/_, _%_, _^_, _<_, _≤_};
 ghost use lib.Bits.{bitXor};
 ghost use lib.ListN.{length, getD, replicate};
 ghost use Rattle.answer.specs.Answer.{size};
-ghost use Rattle.octets.specs.Octets.{bigEndian};
+ghost use Rattle.octets.specs.Octets.{joined, fromBigEndian};
 ghost use Rattle.des.specs.Tables.{initial, inverse, permutation, boxes, choice1C, choice1D, choice2, shifts};
-ghost use Rattle.des.specs.Des.{bit, followed, selected, substitution, cipherFunction, place, leftShift, iteration, iterated, enciphered, joined, blockOctets, encryptAnswer};
-ghost use Rattle.des.specs.Held.{Boxes, Parts, ring};
+ghost use Rattle.des.specs.Des.{bit, followed, selected, substitution, cipherFunction, place, leftShift, iteration, iterated, enciphered, blockOctets, encryptAnswer};
+ghost use Rattle.des.specs.Inner.{Boxes, Parts, ring};
 
 // Octets in a key.
 const KEY_OCTETS: usize = 7;
@@ -47,7 +48,7 @@ pub fn encrypt(key: &[u8], block: &[u8]) -> Block
     if block.len() != BLOCK_OCTETS {
         return refuse();
     }
-    let octets = split(encipher(join(key), join(block)));
+    let octets = octets::long_octets(Order::HighestFirst, encipher(join(key), join(block)));
     Block {
         answer: answer::DONE,
         octets,
@@ -67,7 +68,7 @@ fn refuse() -> Block
 // The block of bits that octets are.
 fn join(octets: &[u8]) -> u64
     requires { ⌜ length (now octets) ≤ blockOctets ⌝ }
-    ensures { λ r. ⌜ r ≡ joined 0 (now (octets .entry)) ⌝ }
+    ensures { λ r. ⌜ r ≡ fromBigEndian (now (octets .entry)) ⌝ }
 {
     let mut r = 0;
     let mut i = 0;
@@ -83,22 +84,6 @@ fn octet(x: u8) -> u64
     ensures { λ r. ⌜ r ≡ x ⌝ }
 {
     x as u64
-}
-
-// The octets of a block.
-fn split(x: u64) -> [u8; 8]
-    ensures { λ r. ⌜ r ≡ bigEndian 8 x ⌝ }
-{
-    [
-        ((x >> 56) % 256) as u8,
-        ((x >> 48) % 256) as u8,
-        ((x >> 40) % 256) as u8,
-        ((x >> 32) % 256) as u8,
-        ((x >> 24) % 256) as u8,
-        ((x >> 16) % 256) as u8,
-        ((x >> 8) % 256) as u8,
-        ((x >> 0) % 256) as u8,
-    ]
 }
 
 // The block x enciphered.

@@ -7,7 +7,7 @@ ghost use Rattle.answer.specs.Answer.{pick};
 ghost use Rattle.blocks.specs.Blocks.{rounds, absorbed as afterBlocks, hashed as hashedBy};
 ghost use Rattle.octets.specs.declared.Order.the-variants.{LowestFirst};
 ghost use Rattle.octets.specs.Octets.{wordLE, longestText};
-ghost use Rattle.md4.specs.Md4.{initial, mixed as mixedBy, constant as constantOf, places, shift as shiftOf, operation as operationOf, added as sums, compress as compressed, octetsIn, refusal, md4Answer};
+ghost use Rattle.md4.specs.Md4.{initial, mixed as mixedBy, constant as constantOf, places, shift as shiftOf, operation as operationOf, added as sums, compress as compressed, octetsIn, md4Answer};
 use octets::LONGEST_TEXT;
 use octets::Order;
 use octets::add;

@@ -7,6 +7,7 @@ use native.Mathlib.Omega.{arith}
 use lib.ListN.{length, take, drop, length-append, length-drop, length-replicate}
 use lib.Seq.{length-take-le, take-append-seam, drop-append-seam}
 use Rattle.sha1.specs.Sha1.{sha1}
+use Rattle.sha1.specs.Laws.{sha1-length}
 use Rattle.rc4.specs.Cipher.{keySchedule}
 use Rattle.rc4.specs.Laws.{run-length}
 use Rattle.mppe_keys.specs.declared.Strength.{Strength}
@@ -32,11 +33,6 @@ unfolding headOf
 head-most Bits40 = omega arith
 head-most Bits56 = omega arith
 head-most Bits128 = omega arith
-
--- a digest has 20 octets
-pub sha1-length : (m : List ℕ) → length (sha1 m) ≡ 20
-unfolding sha1
-sha1-length m = refl
 
 -- the lengths of all keys
 pub masterKey-length : (hashHash response : List ℕ) → length (masterKey hashHash response) ≡ 16

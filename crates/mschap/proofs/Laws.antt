@@ -19,13 +19,13 @@ use Rattle.octets.proofs.Below.{below}
 use Rattle.octets.specs.Laws.{grown, append-more}
 use Rattle.md4.specs.Md4.{md4, md4Answer}
 use Rattle.md4.specs.declared.Digest.{Digest as Md4Digest}
-use Rattle.md4.proofs.Laws.{md4-done}
+use Rattle.md4.specs.Laws.{md4-done}
 use Rattle.sha1.specs.Sha1.{sha1, sha1Answer}
 use Rattle.sha1.specs.declared.Digest.{Digest as Sha1Digest}
 use Rattle.sha1.specs.Laws.{sha1-done}
 use Rattle.des.specs.Des.{encrypted, encryptAnswer}
 use Rattle.des.specs.declared.Block.{Block}
-use Rattle.des.proofs.Answered.{encrypt-done, length-encrypted}
+use Rattle.des.specs.Laws.{encrypt-done, encrypted-length}
 use Rattle.mschap.specs.declared.Hash.{Hash}
 use Rattle.mschap.specs.declared.ChallengeHash.{ChallengeHash}
 use Rattle.mschap.specs.declared.NtResponse.{NtResponse}
@@ -139,9 +139,9 @@ pub response-joined : {key first second third r : List ℕ} (challenge hash : Li
     → r ≡ challengeResponse challenge hash
 unfolding challengeResponse
 response-joined {key} {first} {second} {third} challenge hash ek e₁ e₂ e₃ er h =
-    let l₁ : length first ≡ 8 = ap length e₁ ∙ length-encrypted (take 7 key) challenge in
-    let l₂ : length second ≡ 8 = ap length e₂ ∙ length-encrypted (take 7 (drop 7 key)) challenge in
-    let l₃ : length third ≡ 8 = ap length e₃ ∙ length-encrypted (take 7 (drop 14 key)) challenge in
+    let l₁ : length first ≡ 8 = ap length e₁ ∙ encrypted-length (take 7 key) challenge in
+    let l₂ : length second ≡ 8 = ap length e₂ ∙ encrypted-length (take 7 (drop 7 key)) challenge in
+    let l₃ : length third ≡ 8 = ap length e₃ ∙ encrypted-length (take 7 (drop 14 key)) challenge in
     let all : length (first ++ second ++ third) ≡ 24 = simp length-append (omega arith) in
     er ∙ rw (all, append-nil, e₁, e₂, e₃, hash-padded hash ek h)
 

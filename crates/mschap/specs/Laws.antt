@@ -10,10 +10,10 @@ use lib.Seq.{length-take-le}
 use borrow.Author.Tests.{le-ltb, eq-eqb, eqb-true}
 use Rattle.answer.specs.Answer.{done, firstOf}
 use Rattle.answer.specs.Laws.{right}
-use Rattle.md4.specs.Md4.{md4}
+use Rattle.md4.specs.Laws.{md4-length}
 use Rattle.sha1.specs.Sha1.{sha1}
 use Rattle.sha1.specs.Laws.{sha1-length}
-use Rattle.des.specs.Des.{encrypted}
+use Rattle.des.specs.Laws.{encrypted-length}
 use Rattle.mschap.specs.declared.Hash.{Hash}
 use Rattle.mschap.specs.declared.ChallengeHash.{ChallengeHash}
 use Rattle.mschap.specs.declared.NtResponse.{NtResponse}
@@ -26,22 +26,18 @@ use Rattle.mschap.specs.Answers.{passwordRows, challengeRows, responseRo
 
 -- the lengths of all results
 pub passwordHash-length : (password : List ℕ) → length (passwordHash password) ≡ hashLength
-unfolding passwordHash md4
-passwordHash-length password = refl
+unfolding passwordHash
+passwordHash-length password = md4-length password
 
 pub hashHash-length : (hash : List ℕ) → length (hashHash hash) ≡ hashLength
-unfolding hashHash md4
-hashHash-length hash = refl
+unfolding hashHash
+hashHash-length hash = md4-length hash
 
 pub challengeHash-length : (peer authenticator name : List ℕ) → length (challengeHash peer authenticator name) ≡ challengeHashLength
 unfolding challengeHash
 challengeHash-length peer authenticator name =
     let text : List ℕ = peer ++ authenticator ++ hashedName name in
     length-take-le 8 (sha1 text) (omega (arith, sha1-length text))
-
-encrypted-length : (key block : List ℕ) → length (encrypted key block) ≡ 8
-unfolding encrypted
-encrypted-length key block = refl
 
 pub challengeResponse-length : (challenge hash : List ℕ) → length (challengeResponse challenge hash) ≡ responseLength
 unfolding challengeResponse

@@ -24,12 +24,12 @@ join-requires-2 c κs = search needs
 encipher-requires : tie.Need-encipher-requires
 encipher-requires c κs = search needs
 
-split-requires : tie.Need-split-requires
-split-requires c κs = search needs
+long-octets-requires : tie.Need-long-octets-requires
+long-octets-requires c κs = search needs
 
 returns-3 : tie.Need-returns-3
 returns-3 c =
-    answered _ _ _ _ _ _ (c .before .before .before .before .before .if1 .left) (c .before .before .before .before .if2 .left) (c .before .before .before .join .ensures) (c .before .before .join2 .ensures) (c .before .encipher .ensures) (c .split .ensures)
+    answered _ _ _ _ _ _ (c .before .before .before .before .before .if1 .left) (c .before .before .before .before .if2 .left) (c .before .before .before .join .ensures) (c .before .before .join2 .ensures) (c .before .encipher .ensures) (c .long-octets .ensures)
 
 pub encrypt-spec : {M : Type 1} → statement M
 encrypt-spec =
@@ -42,5 +42,5 @@ encrypt-spec =
     join-requires
     join-requires-2
     encipher-requires
-    split-requires
+    long-octets-requires
     returns-3)

@@ -1,4 +1,4 @@
--- What the code has in place of the tables of the standard.
+-- What only private functions promise: what the code has in place of the tables of the standard.
 use mathlib.Core.Path.{_≡_}
 use mathlib.Core.List.{List, []}
 use Prim.Native.Nat.{ℕ, _+_, _-_, _*_, _/_, _%_, _^_, _<_}
