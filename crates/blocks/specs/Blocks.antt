@@ -2,9 +2,11 @@
 -- SHA-1 and SHA-256 (FIPS 180-4, 5.1.1, 5.2.1, 6.1.2 and 6.2.2) share.
 use mathlib.Core.List.{List, [], _∷_, _++_}
 use Prim.Native.Nat.{ℕ, zero, suc, _+_, _*_, _-_, _/_, _%_}
+use lib.Dec.{ltb}
 use lib.ListN.{length, take, drop, replicate}
+use Rattle.answer.specs.Answer.{pick}
 use Rattle.octets.specs.declared.Order.{Order}
-use Rattle.octets.specs.Octets.{octetsOf}
+use Rattle.octets.specs.Octets.{octetsOf, wordBE}
 use Rattle.blocks.specs.declared.Tail.{Tail}
 
 -- block n of a message, counted from 0
@@ -23,6 +25,10 @@ padding order n = padded order n (8 * n)
 unfoldable pub schedule : (List ℕ → ℕ → ℕ) → ℕ → List ℕ
 schedule next zero = []
 schedule next (suc t) = schedule next t ++ next (schedule next t) t ∷ []
+
+-- word t of SHA's schedules, from the words before it: the first 16 are the block's, the others what `late` says
+unfoldable pub nextWord : (late : List ℕ → ℕ → ℕ) (block w : List ℕ) (t : ℕ) → ℕ
+nextWord late block w t = pick (ltb t 16) (wordBE block (4 * t)) (late w t)
 
 -- n rounds, from round t on
 unfoldable pub rounds : {S : Type 0} → (ℕ → S → S) → ℕ → ℕ → S → S

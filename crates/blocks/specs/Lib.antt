@@ -1,2 +1,4 @@
--- To be believed. Only private functions of the digests cite `closed`.
+-- Definitions that contracts of the digests cite: what a reader must believe. Only private functions cite `closed`.
 pub mod Blocks
+-- Laws.
+pub mod Laws

@@ -2,11 +2,11 @@
 // No branch goes by a bit of the key or the block; the places read from the tables do.
 mod tables;
 
+use octets::Order;
 use tables::P_PARTS;
 use tables::PC2_C_PARTS;
 use tables::PC2_D_PARTS;
 use tables::S_BOXES;
-use octets::Order;
 ghost use mathlib.Core.Path.{_≡_};
 ghost use mathlib.Core.List.{_∷_, [], _++_, map};
 ghost use Prim.Native.Nat.{ℕ, _+_, _-_, _*_, _/_, _%_, _^_, _<_, _≤_};

@@ -14,7 +14,7 @@ use Rattle.octets.specs.declared.Order.the-variants.{LowestFirst}
 use Rattle.octets.proofs.Below.{both, both-left, both-right, below}
 use Rattle.answer.specs.Answer.{done, size, pick}
 use Rattle.blocks.specs.Blocks.{rounds, hashed}
-use Rattle.blocks.proofs.Laws.{add-swap, rounds-add}
+use Rattle.blocks.specs.Laws.{add-swap, rounds-add}
 use Rattle.md4.specs.Md4.{mixed, constant, places, shift, operation, added, compress, initial, octetsIn, md4, md4Answer}
 use Rattle.md4.specs.Laws.{md4-done}
 use Rattle.md4.specs.declared.State.{State}

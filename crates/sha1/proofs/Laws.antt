@@ -8,34 +8,19 @@ use lib.Seq.{getD-take}
 use borrow.Author.Tests.{lt-ltb, le-ltb}
 use Rattle.answer.specs.Answer.{done, size}
 use Rattle.octets.specs.Octets.{wordBE, longestText}
-use Rattle.sha1.specs.Sha1.{lateWord, nextWord, round, added, compress, initial, octetsIn, sha1, sha1Answer}
+use Rattle.sha1.specs.Sha1.{lateWord, round, added, compress, initial, octetsIn, sha1, sha1Answer}
 use Rattle.sha1.specs.Laws.{sha1-done}
 use Rattle.octets.specs.declared.Order.the-variants.{HighestFirst}
 use Rattle.blocks.specs.Blocks.{schedule, rounds, hashed}
-use Rattle.blocks.proofs.Laws.{rounds-add}
+use Rattle.blocks.specs.Laws.{rounds-add}
 use Rattle.sha1.specs.declared.State.{State}
 use Rattle.sha1.specs.declared.Digest.{Digest}
 
--- a word of the block is the next word of the schedule
-pub early : {x : ℕ} (block w : List ℕ) (t : ℕ) → x ≡ wordBE block (4 * t) → t < 16 → x ≡ nextWord block (take t w) t
-unfolding nextWord
-early block w t ex h = rw (ex, lt-ltb t 16 h)
-
--- so is one made from those before it
-pub late : {x : ℕ} (block w : List ℕ) (t : ℕ) → x ≡ lateWord w t → 16 ≤ t → x ≡ nextWord block (take t w) t
-unfolding nextWord
-late block w t ex h =
+-- a word made from those before it looks at no other
+pub late : {x : ℕ} (w : List ℕ) (t : ℕ) → x ≡ lateWord w t → 16 ≤ t → x ≡ lateWord (take t w) t
+late w t ex h =
     rw
-    (ex, le-ltb t 16 h, getD-take t w (t - 3) 0 (omega arith), getD-take t w (t - 8) 0 (omega arith), getD-take t w (t - 14) 0 (omega arith), getD-take t w (t - 16) 0 (omega arith))
-
--- eighty rounds on the schedule, added to the hash value
-pub block-done : {s₁ s₂ s₃ s₄ r : State} {w : List ℕ} (h : State) (block : List ℕ) → w ≡ schedule (nextWord block) 80
-    → s₁ ≡ rounds (round w) 0 20 h → s₂ ≡ rounds (round w) 20 20 s₁ → s₃ ≡ rounds (round w) 40 20 s₂ → s₄ ≡ rounds (round w) 60 20 s₃
-    → r ≡ added h s₄ → r ≡ compress h block
-unfolding compress
-block-done h block ew e₁ e₂ e₃ e₄ er =
-    let f : ℕ → State → State = round (schedule (nextWord block) 80) in
-    rw (er, e₄, e₃, e₂, e₁, ew, rounds-add f 0 20 20 h, rounds-add f 0 40 20 h, rounds-add f 0 60 20 h)
+    (ex, getD-take t w (t - 3) 0 (omega arith), getD-take t w (t - 8) 0 (omega arith), getD-take t w (t - 14) 0 (omega arith), getD-take t w (t - 16) 0 (omega arith))
 
 -- the two ways out of the call
 pub too-long : (m : List ℕ) → longestText < length m → record { answer = size; octets = replicate 20 0 } ≡ sha1Answer m

@@ -6,9 +6,9 @@ use lib.Dec.{ltb}
 use lib.ListN.{length, getD, replicate}
 use Rattle.answer.specs.Answer.{size, pick, firstOf, onDone}
 use Rattle.octets.specs.declared.Order.the-variants.{HighestFirst}
-use Rattle.octets.specs.Octets.{wordBE, wordsOf, longestText}
+use Rattle.octets.specs.Octets.{wordsOf, longestText}
 use Rattle.octets.specs.Words.{_⊞_, rotl, complement}
-use Rattle.blocks.specs.Blocks.{schedule, rounds, hashed}
+use Rattle.blocks.specs.Blocks.{schedule, nextWord, rounds, hashed}
 use Rattle.sha1.specs.declared.State.{State}
 use Rattle.sha1.specs.declared.Digest.{Digest}
 
@@ -37,9 +37,6 @@ initial = record { a = 0x67452301; b = 0xefcdab89; c = 0x98badcfe; d = 0x1032547
 abbrev pub lateWord : List ℕ → ℕ → ℕ
 lateWord w t = rotl 1 (bitXor (bitXor (bitXor (getD w (t - 3) 0) (getD w (t - 8) 0)) (getD w (t - 14) 0)) (getD w (t - 16) 0))
 
-unfoldable pub nextWord : List ℕ → List ℕ → ℕ → ℕ
-nextWord block w t = pick (ltb t 16) (wordBE block (4 * t)) (lateWord w t)
-
 -- step 3: round t, on the working variables
 unfoldable pub round : List ℕ → ℕ → State → State
 round w t s = record {
@@ -56,7 +53,7 @@ added h s = record { a = s .a ⊞ h .a; b = s .b ⊞ h .b; c = s .c ⊞ h .c; d 
 
 -- steps 1 to 4: the hash value after one block more
 unfoldable pub compress : State → List ℕ → State
-compress h block = added h (rounds (round (schedule (nextWord block) 80)) 0 80 h)
+compress h block = added h (rounds (round (schedule (nextWord lateWord block) 80)) 0 80 h)
 
 -- the message digest
 abbrev pub octetsIn : State → List ℕ

@@ -2,11 +2,11 @@
 ghost use mathlib.Core.Path.{_≡_};
 ghost use Prim.Native.Nat.{_+_, _*_, _<_, _≤_};
 ghost use lib.ListN.{length};
-ghost use Rattle.blocks.specs.Blocks.{schedule as words, rounds, absorbed as afterBlocks, hashed as hashedBy};
+ghost use Rattle.blocks.specs.Blocks.{nextWord, schedule as words, rounds, absorbed as afterBlocks, hashed as hashedBy};
 ghost use Rattle.octets.specs.declared.Order.the-variants.{HighestFirst};
 ghost use Rattle.octets.specs.Words.{rotl};
 ghost use Rattle.octets.specs.Octets.{wordBE, longestText};
-ghost use Rattle.sha1.specs.Sha1.{f as choice, k as constant, initial, lateWord, nextWord, round as roundOf, added as sums, compress as compressed, octetsIn, sha1Answer};
+ghost use Rattle.sha1.specs.Sha1.{f as choice, k as constant, initial, lateWord, round as roundOf, added as sums, compress as compressed, octetsIn, sha1Answer};
 use octets::LONGEST_TEXT;
 use octets::Order;
 use octets::add;
@@ -93,7 +93,7 @@ fn compress(h: State, block: &[u8]) -> State
 // The message schedule of a block.
 fn schedule(block: &[u8]) -> [u32; 80]
     requires { ⌜ length (now block) ≡ 64 ⌝ }
-    ensures { λ r. ⌜ r ≡ words (nextWord (now (block .entry))) 80 ⌝ }
+    ensures { λ r. ⌜ r ≡ words (nextWord lateWord (now (block .entry))) 80 ⌝ }
 {
     let mut w = [0u32; 80];
     let mut t = 0;

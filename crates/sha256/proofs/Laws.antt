@@ -11,23 +11,17 @@ use Rattle.octets.specs.Octets.{wordBE, longestText}
 use Rattle.octets.specs.Words.{_⊞_}
 use Rattle.octets.specs.declared.Order.the-variants.{HighestFirst}
 use Rattle.blocks.specs.Blocks.{schedule, rounds, closed}
-use Rattle.blocks.proofs.Laws.{add-swap, rounds-add, closed-alone}
-use Rattle.sha256.specs.Sha256.{ch, maj, Σ₀, Σ₁, k, lateWord, nextWord, round, added, compress, initial, octetsIn, sha256, sha256Answer}
+use Rattle.blocks.specs.Laws.{add-swap, rounds-add, closed-alone}
+use Rattle.sha256.specs.Sha256.{ch, maj, Σ₀, Σ₁, k, lateWord, round, added, compress, initial, octetsIn, sha256, sha256Answer}
 use Rattle.sha256.specs.Inner.{refusedDigest}
 use Rattle.sha256.specs.declared.State.{State}
 use Rattle.sha256.specs.declared.Digest.{Digest}
 
--- a word of the block is the next word of the schedule
-pub early : {x : ℕ} (block w : List ℕ) (t : ℕ) → x ≡ wordBE block (4 * t) → t < 16 → x ≡ nextWord block (take t w) t
-unfolding nextWord
-early block w t ex h = rw (ex, lt-ltb t 16 h)
-
--- so is one made from those before it
-pub late : {x : ℕ} (block w : List ℕ) (t : ℕ) → x ≡ lateWord w t → 16 ≤ t → x ≡ nextWord block (take t w) t
-unfolding nextWord
-late block w t ex h =
+-- a word made from those before it looks at no other
+pub late : {x : ℕ} (w : List ℕ) (t : ℕ) → x ≡ lateWord w t → 16 ≤ t → x ≡ lateWord (take t w) t
+late w t ex h =
     rw
-    (ex, le-ltb t 16 h, getD-take t w (t - 2) 0 (omega arith), getD-take t w (t - 7) 0 (omega arith), getD-take t w (t - 15) 0 (omega arith), getD-take t w (t - 16) 0 (omega arith))
+    (ex, getD-take t w (t - 2) 0 (omega arith), getD-take t w (t - 7) 0 (omega arith), getD-take t w (t - 15) 0 (omega arith), getD-take t w (t - 16) 0 (omega arith))
 
 -- a round, its sums in the code's order
 added-last : (h σ c k w : ℕ) → h ⊞ k ⊞ w ⊞ c ⊞ σ ≡ h ⊞ σ ⊞ c ⊞ k ⊞ w
@@ -44,15 +38,6 @@ rounded w t s ek e₁ e₂ e₃ eσ et₁ eσ′ et₂ ea ee =
 -- rotations and a shift joined
 pub three : {a b c : ℕ} (x y z : ℕ) → a ≡ x → b ≡ y → c ≡ z → bitXor (bitXor a b) c ≡ bitXor (bitXor x y) z
 three x y z ea eb ec = rw (ea, eb, ec)
-
--- 64 rounds on the schedule, added to the hash value
-pub block-done : {s₁ s₂ s₃ s₄ r : State} {w : List ℕ} (h : State) (block : List ℕ) → w ≡ schedule (nextWord block) 64
-    → s₁ ≡ rounds (round w) 0 16 h → s₂ ≡ rounds (round w) 16 16 s₁ → s₃ ≡ rounds (round w) 32 16 s₂ → s₄ ≡ rounds (round w) 48 16 s₃
-    → r ≡ added h s₄ → r ≡ compress h block
-unfolding compress
-block-done h block ew e₁ e₂ e₃ e₄ er =
-    let f : ℕ → State → State = round (schedule (nextWord block) 64) in
-    rw (er, e₄, e₃, e₂, e₁, ew, rounds-add f 0 16 16 h, rounds-add f 0 32 16 h, rounds-add f 0 48 16 h)
 
 -- the digest, from the initial hash value on
 pub digest-is : {i h : State} {o : List ℕ} (m : List ℕ) → i ≡ initial → h ≡ closed compress HighestFirst i 0 m → o ≡ octetsIn h → o ≡ sha256 m

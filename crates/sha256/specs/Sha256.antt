@@ -6,9 +6,9 @@ use lib.Dec.{ltb}
 use lib.ListN.{length, getD, replicate}
 use Rattle.answer.specs.Answer.{size, pick, firstOf, onDone}
 use Rattle.octets.specs.declared.Order.the-variants.{HighestFirst}
-use Rattle.octets.specs.Octets.{wordBE, wordsOf, longestText}
+use Rattle.octets.specs.Octets.{wordsOf, longestText}
 use Rattle.octets.specs.Words.{_⊞_, rotr, complement}
-use Rattle.blocks.specs.Blocks.{schedule, rounds, hashed}
+use Rattle.blocks.specs.Blocks.{schedule, nextWord, rounds, hashed}
 use Rattle.sha256.specs.declared.State.{State}
 use Rattle.sha256.specs.declared.Digest.{Digest}
 
@@ -66,9 +66,6 @@ initial = record {
 abbrev pub lateWord : List ℕ → ℕ → ℕ
 lateWord w t = σ₁ (getD w (t - 2) 0) ⊞ getD w (t - 7) 0 ⊞ σ₀ (getD w (t - 15) 0) ⊞ getD w (t - 16) 0
 
-unfoldable pub nextWord : List ℕ → List ℕ → ℕ → ℕ
-nextWord block w t = pick (ltb t 16) (wordBE block (4 * t)) (lateWord w t)
-
 -- step 3: round t, on the working variables
 abbrev pub t₁ : List ℕ → ℕ → State → ℕ
 t₁ w t s = s .h ⊞ Σ₁ (s .e) ⊞ ch (s .e) (s .f) (s .g) ⊞ getD k t 0 ⊞ getD w t 0
@@ -103,7 +100,7 @@ added h s = record {
 
 -- steps 1 to 4: the hash value after one block more
 unfoldable pub compress : State → List ℕ → State
-compress h block = added h (rounds (round (schedule (nextWord block) 64)) 0 64 h)
+compress h block = added h (rounds (round (schedule (nextWord lateWord block) 64)) 0 64 h)
 
 -- the message digest
 abbrev pub octetsIn : State → List ℕ

@@ -5,10 +5,10 @@ pub use hmac::hmac_sha256;
 ghost use mathlib.Core.Path.{_≡_};
 ghost use Prim.Native.Nat.{_+_, _*_, _%_, _<_, _≤_};
 ghost use lib.ListN.{length};
-ghost use Rattle.blocks.specs.Blocks.{schedule as words, rounds, absorbed as afterBlocks, closed as closedBy};
+ghost use Rattle.blocks.specs.Blocks.{nextWord, schedule as words, rounds, absorbed as afterBlocks, closed as closedBy};
 ghost use Rattle.octets.specs.declared.Order.the-variants.{HighestFirst};
 ghost use Rattle.octets.specs.Octets.{wordBE, longestText};
-ghost use Rattle.sha256.specs.Sha256.{bigSigma, smallSigma, k as constants, initial as initialValue, lateWord, nextWord, round as roundOf, added as sums, compress as compressed, octetsIn, sha256Answer};
+ghost use Rattle.sha256.specs.Sha256.{bigSigma, smallSigma, k as constants, initial as initialValue, lateWord, round as roundOf, added as sums, compress as compressed, octetsIn, sha256Answer};
 ghost use Rattle.sha256.specs.Inner.{refusedDigest};
 use octets::LONGEST_TEXT;
 use octets::Order;
@@ -169,7 +169,7 @@ fn compress(h: State, block: &[u8]) -> State
 // The message schedule of a block.
 fn schedule(block: &[u8]) -> [u32; 64]
     requires { ⌜ length (now block) ≡ 64 ⌝ }
-    ensures { λ r. ⌜ r ≡ words (nextWord (now (block .entry))) 64 ⌝ }
+    ensures { λ r. ⌜ r ≡ words (nextWord lateWord (now (block .entry))) 64 ⌝ }
 {
     let mut w = [0u32; 64];
     let mut t = 0;

@@ -4,7 +4,7 @@ use native.Mathlib.Omega.{arith}
 use lib.ListN.{length}
 use denote.Ref.{now}
 use borrow.Author.Needs.{needs}
-use Rattle.blocks.proofs.Laws.{after-none, after-more}
+use Rattle.blocks.specs.Laws.{after-none, after-more}
 use Rattle.blocks.specs.Blocks.{after}
 use Rattle.sha1.specs.Sha1.{compress}
 use Rattle.sha1.proofs.absorbed.Statement.{statement}

@@ -1,5 +1,6 @@
 use borrow.Author.Needs.{needs}
-use Rattle.sha1.proofs.Laws.{block-done}
+use Rattle.blocks.specs.Laws.{block-done}
+use Rattle.sha1.specs.Sha1.{round, added, compress}
 use Rattle.sha1.proofs.compress.Statement.{statement}
 use Rattle.sha1.proofs.compress.Tie as tie
 
@@ -22,7 +23,14 @@ added-requires : tie.Need-added-requires
 added-requires c κs = search needs
 
 returns : tie.Need-returns
-returns c = block-done _ _ (c .before .before .before .before .before .before .before .before .before .schedule .ensures) (c .before .before .before .before .before .before .before .twenty .ensures) (c .before .before .before .before .before .twenty2 .ensures) (c .before .before .before .twenty3 .ensures) (c .before .twenty4 .ensures) (c .added .ensures)
+unfolding compress
+returns c =
+    let fourth = c .before in
+    let third = fourth .before .before in
+    let second = third .before .before in
+    let first = second .before .before in
+    block-done round added 20 _ _ (first .before .before .schedule .ensures) (first .twenty .ensures) (second .twenty2 .ensures)
+    (third .twenty3 .ensures) (fourth .twenty4 .ensures) (c .added .ensures)
 
 pub compress-spec : {M : Type 1} → statement M
 compress-spec =

@@ -3,7 +3,7 @@ use Prim.Native.Nat.{_≤_, _*_, _-_}
 use native.Mathlib.Omega.{arith}
 use borrow.Author.Needs.{needs}
 use Rattle.sha1.specs.Sha1.{round}
-use Rattle.blocks.proofs.Laws.{round-none, round-more}
+use Rattle.blocks.specs.Laws.{round-none, round-more}
 use Rattle.blocks.specs.Blocks.{rounds}
 use Rattle.sha1.proofs.twenty.Statement.{statement}
 use Rattle.sha1.proofs.twenty.Tie as tie

@@ -1,7 +1,7 @@
 use mathlib.Core.Path.{refl}
 use borrow.Author.Needs.{needs}
-use Rattle.sha256.specs.Sha256.{k}
-use Rattle.sha256.proofs.Laws.{block-done}
+use Rattle.blocks.specs.Laws.{block-done}
+use Rattle.sha256.specs.Sha256.{k, round, added, compress}
 use Rattle.sha256.proofs.compress.Statement.{statement}
 use Rattle.sha256.proofs.compress.Tie as tie
 
@@ -28,7 +28,14 @@ added-requires : tie.Need-added-requires
 added-requires c κs = search needs
 
 returns : tie.Need-returns
-returns c = block-done _ _ (c .before .before .before .before .before .before .before .before .before .before .before .before .before .schedule .ensures) (c .before .before .before .before .before .before .before .before .before .before .sixteen .ensures) (c .before .before .before .before .before .before .before .sixteen2 .ensures) (c .before .before .before .before .sixteen3 .ensures) (c .before .sixteen4 .ensures) (c .added .ensures)
+unfolding compress
+returns c =
+    let fourth = c .before in
+    let third = fourth .before .before .before in
+    let second = third .before .before .before in
+    let first = second .before .before .before in
+    block-done round added 16 _ _ (first .before .before .before .schedule .ensures) (first .sixteen .ensures) (second .sixteen2 .ensures)
+    (third .sixteen3 .ensures) (fourth .sixteen4 .ensures) (c .added .ensures)
 
 pub compress-spec : {M : Type 1} → statement M
 compress-spec =

@@ -4,21 +4,21 @@ use native.Mathlib.Omega.{arith}
 use lib.Seq.{take-all}
 use lib.ListN.{length, take, length-set}
 use borrow.Author.Needs.{needs}
-use Rattle.sha256.proofs.Laws.{early, late}
-use Rattle.blocks.proofs.Laws.{word-more}
-use Rattle.blocks.specs.Blocks.{schedule}
-use Rattle.sha256.specs.Sha256.{nextWord}
+use Rattle.sha256.proofs.Laws.{late}
+use Rattle.blocks.specs.Laws.{word-more, early, later}
+use Rattle.blocks.specs.Blocks.{schedule, nextWord}
+use Rattle.sha256.specs.Sha256.{lateWord}
 use Rattle.sha256.proofs.schedule.Statement.{statement}
 use Rattle.sha256.proofs.schedule.Tie as tie
 
 abbrev Inv-loop : tie.InvT-loop
-Inv-loop block w₀ t₀ w t = (length block ≡ 64) × (t ≤ 16) × (length w ≡ 64) × (take t w ≡ schedule (nextWord block) t)
+Inv-loop block w₀ t₀ w t = (length block ≡ 64) × (t ≤ 16) × (length w ≡ 64) × (take t w ≡ schedule (nextWord lateWord block) t)
 
 abbrev μ-loop : tie.MeasureT-loop
 μ-loop block w₀ t₀ w t = 16 - t
 
 abbrev Inv-loop2 : tie.InvT-loop2
-Inv-loop2 block w₀ t₀ w t = (16 ≤ t) × (t ≤ 64) × (length w ≡ 64) × (take t w ≡ schedule (nextWord block) t)
+Inv-loop2 block w₀ t₀ w t = (16 ≤ t) × (t ≤ 64) × (length w ≡ 64) × (take t w ≡ schedule (nextWord lateWord block) t)
 
 abbrev μ-loop2 : tie.MeasureT-loop2
 μ-loop2 block w₀ t₀ w t = 64 - t
@@ -44,7 +44,7 @@ loop-less c = search needs
 
 loop-again : tie.Need-loop-again Inv-loop μ-loop Inv-loop2 μ-loop2
 loop-again c = let l = c .before .before .loop in
-    (l .inv .0, omega arith, simp length-set (l .inv .2), word-more _ (l .w) (l .t) (l .inv .3) (early _ (l .w) (l .t) (c .word-at .ensures) (omega arith)) (omega arith))
+    (l .inv .0, omega arith, simp length-set (l .inv .2), word-more _ (l .w) (l .t) (l .inv .3) (early lateWord _ _ (l .t) (c .word-at .ensures) (omega arith)) (omega arith))
 
 loop2-holds : tie.Need-loop2-holds Inv-loop μ-loop Inv-loop2 μ-loop2
 loop2-holds c = search needs
@@ -66,7 +66,7 @@ loop2-less c = search needs
 
 loop2-again : tie.Need-loop2-again Inv-loop μ-loop Inv-loop2 μ-loop2
 loop2-again c = let l = c .before .before .before .loop2 in
-    (omega arith, omega arith, simp length-set (l .inv .2), word-more _ (l .w) (l .t) (l .inv .3) (late _ (l .w) (l .t) (c .late-word .ensures) (omega arith)) (omega arith))
+    (omega arith, omega arith, simp length-set (l .inv .2), word-more _ (l .w) (l .t) (l .inv .3) (later lateWord _ _ (l .t) (late (l .w) (l .t) (c .late-word .ensures) (omega arith)) (omega arith)) (omega arith))
 
 returns : tie.Need-returns Inv-loop μ-loop Inv-loop2 μ-loop2
 returns c = let l = c .before .loop2 in

@@ -7,10 +7,12 @@ use native.Mathlib.Numerals.{add-one}
 use native.Mathlib.Omega.{arith}
 use lib.ListN.{length, take, drop, length-append, length-drop, take-append-drop, set}
 use lib.Seq.{length-take-le, take-append-le, drop-append-le, drop-drop, drop-append-seam, take-append-seam, take-all, take-suc-set}
+use borrow.Author.Tests.{lt-ltb, le-ltb}
+use Rattle.octets.specs.Octets.{wordBE}
 use Rattle.octets.specs.Words.{_⊞_}
 use Rattle.octets.specs.declared.Order.{Order}
 use Rattle.blocks.specs.declared.Tail.{Tail}
-use Rattle.blocks.specs.Blocks.{schedule, rounds, tailOf, block, padding, padded, ending, after, absorbed, hashed, closed}
+use Rattle.blocks.specs.Blocks.{schedule, nextWord, rounds, tailOf, block, padding, padded, ending, after, absorbed, hashed, closed}
 
 -- two words are added in either order
 pub add-swap : (a x y : ℕ) → a ⊞ x ⊞ y ≡ a ⊞ y ⊞ x
@@ -21,6 +23,15 @@ pub word-more : {x : ℕ} (next : List ℕ → ℕ → ℕ) (w : List ℕ) (t : 
     → take (t + 1) (set w t x) ≡ schedule next (t + 1)
 unfolding schedule
 word-more {x} next w t e ex h = rw (add-one, take-suc-set w t x h, ex, e)
+
+-- a word of the block is the next word of a schedule, and so is one made from those before it
+pub early : {x : ℕ} (late : List ℕ → ℕ → ℕ) (block w : List ℕ) (t : ℕ) → x ≡ wordBE block (4 * t) → t < 16 → x ≡ nextWord late block w t
+unfolding nextWord
+early late block w t ex h = rw (ex, lt-ltb t 16 h)
+
+pub later : {x : ℕ} (late : List ℕ → ℕ → ℕ) (block w : List ℕ) (t : ℕ) → x ≡ late w t → 16 ≤ t → x ≡ nextWord late block w t
+unfolding nextWord
+later late block w t ex h = rw (ex, le-ltb t 16 h)
 
 module _ {S : Type 0} (round : ℕ → S → S) where
   -- a loop over rounds begins, and goes on by one
@@ -37,6 +48,14 @@ module _ {S : Type 0} (round : ℕ → S → S) where
   unfolding rounds
   rounds-add t m zero s = rw add-zero
   rounds-add t m (suc n) s = rw (add-suc, rounds-add t m n s, add-assoc)
+
+-- all rounds on a schedule, in four equal parts, added to the hash value
+pub block-done : {S : Type 0} {s₁ s₂ s₃ s₄ r : S} {w : List ℕ} (round : List ℕ → ℕ → S → S) (added : S → S → S) (q : ℕ) (h : S) (words : List ℕ) → w ≡ words
+    → s₁ ≡ rounds (round w) 0 q h → s₂ ≡ rounds (round w) (0 + q) q s₁ → s₃ ≡ rounds (round w) (0 + (q + q)) q s₂ → s₄ ≡ rounds (round w) (0 + (q + q + q)) q s₃
+    → r ≡ added h s₄ → r ≡ added h (rounds (round words) 0 (q + q + q + q) h)
+block-done round added q h words ew e₁ e₂ e₃ e₄ er =
+    let f = round words in
+    rw (er, e₄, e₃, e₂, e₁, ew, rounds-add f 0 q q h, rounds-add f 0 (q + q) q h, rounds-add f 0 (q + q + q) q h)
 
 -- a block of the first of two parts
 block-front : (p q : List ℕ) (n : ℕ) → 64 * suc n ≤ length p → block (p ++ q) n ≡ block p n
