@@ -20,6 +20,17 @@ pub linked-on : (call : Link → Result) (l : Link) (out : List ℕ) → Sized l
 unfolding linked
 linked-on call l out h = rw (reads-back l h)
 
+-- a call that hands back the record given leaves its octets as they were
+pub linked-kept : (call : Link → Result) (octets out : List ℕ) → Octets octets → call (recordRead octets .link) .outcome .link ≡ recordRead octets .link
+    → linked call octets out .octets ≡ octets
+unfolding linked
+linked-kept call octets out all same = go (recordRead octets .answer) refl
+  where
+    go : (code : ℕ) → recordRead octets .answer ≡ code
+        → onDone code (linkedBy (call (recordRead octets .link))) (unchanged code octets out) .octets ≡ octets
+    go zero ok = ap recordOctets same ∙ writes-back octets all ok
+    go (suc n) ok = refl
+
 -- "Refusals 1 to 9 hand back the record given and change no lent octet": of a call on records ..
 abbrev pub Refuses : (Link → Result) → List ℕ → Type 0
 Refuses call out = (l : Link) → call l .outcome .answer ≢ done → call l ≡ refusal (call l .outcome .answer) l out
