@@ -1,5 +1,5 @@
-/* What crates/rc4_samples must print: keystreams by OpenSSL's RC4, boxes and single draws by the oracle's rule, which is held against
-   OpenSSL's keystream of the same key; and the keystreams against RFC 6229 as it prints them. */
+/* What crates/rc4_samples must print, by the oracle's rule, whose keystream is held against OpenSSL's of the same key and against
+   RFC 6229 as it is printed; a text cut and run twice by OpenSSL's RC4. */
 #define OPENSSL_SUPPRESS_DEPRECATED
 #include "line.h"
 
