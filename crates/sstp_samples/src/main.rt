@@ -1,4 +1,5 @@
 // Derives the base and binding keys of both ends from RFC 3079's 128-bit sample, tries the limits of 01, and prints what is answered.
+ghost use Prim.Native.Nat.{_≤_};
 use mppe_keys::Direction;
 use mppe_keys::Role;
 use mppe_keys::Strength;
@@ -62,13 +63,22 @@ fn base_key(role: Role, send: &[u8], receive: &[u8]) -> [u8; 32] {
 
 // Start keys of right and wrong lengths.
 fn sizes(role: Role) {
-    base_key(role, &[0x11; 16], &[0x22; 16]);
-    base_key(role, &[0x11; 15], &[0x22; 16]);
-    base_key(role, &[0x11; 17], &[0x22; 16]);
-    base_key(role, &[0x11; 16], &[0x22; 15]);
-    base_key(role, &[0x11; 16], &[0x22; 17]);
-    base_key(role, &[0x11; 8], &[0x22; 8]);
-    base_key(role, b"", b"");
+    sized(role, 16, 16);
+    sized(role, 15, 16);
+    sized(role, 17, 16);
+    sized(role, 16, 15);
+    sized(role, 16, 17);
+    sized(role, 8, 8);
+    sized(role, 0, 0);
+}
+
+// Start keys of so many octets.
+fn sized(role: Role, send: usize, receive: usize)
+    requires { ⌜ (send ≤ 17) × (receive ≤ 17) ⌝ }
+{
+    let sent = [0x11u8; 17];
+    let received = [0x22u8; 17];
+    base_key(role, &sent[0..send], &received[0..receive]);
 }
 
 // Key material of 0 to 70 octets, the longest, and one octet more.
@@ -98,7 +108,7 @@ fn material_of(octets: &[u8], n: usize) {
     if octets.len() < n {
         return;
     }
-    bound(&octets[..n]);
+    bound(&octets[0..n]);
 }
 
 // Prints the binding key of key material.
