@@ -145,7 +145,7 @@ fn in_front(kind: Kind, name: &[u8], out: &mut [u8], room: usize) {
     if out.len() < room {
         return;
     }
-    write_and_read(kind, name, &mut out[..room]);
+    write_and_read(kind, name, &mut out[0..room]);
 }
 
 // A packet written, and the buffer read.
@@ -159,7 +159,7 @@ fn first(octets: &[u8], n: usize) -> &[u8] {
     if octets.len() < n {
         return octets;
     }
-    &octets[..n]
+    &octets[0..n]
 }
 
 // Octets to cut names and values from.

@@ -50,7 +50,7 @@ fn front(text: &[u8], n: usize) -> &[u8] {
     if text.len() < n {
         return text;
     }
-    &text[..n]
+    &text[0..n]
 }
 
 // What every call answers to one set of inputs.
