@@ -76,6 +76,7 @@ Whole cells = (length cells ≡ 256) × Perm cells (below 256)
 swap-whole : (c : List ℕ) (a b : ℕ) → a < 256 → b < 256 → Whole c → Whole (swap c a b)
 swap-whole c a b ha hb (long, perm) = (simp length-set long, Perm·trans (swap-perm c a b (omega arith) (omega arith)) perm)
 
+-- there are n numbers below n
 pub below-length : (n : ℕ) → length (below n) ≡ n
 unfolding below
 below-length zero = refl

@@ -116,7 +116,7 @@ pub fn draw_next(g: &mut Rc4) -> u8
     d.octet
 }
 
-// The box of a key after all rounds, eight in each turn. j is not wrapped mod 256 between them.
+// The box of a key after all rounds, sixteen in each turn. j is not wrapped mod 256 between them.
 fn key_schedule(key: &[u8]) -> [u8; 256]
     requires { ⌜ 1 ≤ length (now key) ⌝ }
     ensures { λ r. ⌜ r ≡ rounds (now (key .entry)) 256 .cells ⌝ }
@@ -127,12 +127,12 @@ fn key_schedule(key: &[u8]) -> [u8; 256]
     let mut i = 0;
     while i < 256 {
         let mut k = 0;
-        while k < 8 {
+        while k < 16 {
             j = mix(&mut cells, i + k, j, key[place]);
             place = next_place(place, key.len());
             k += 1;
         }
-        i += 8;
+        i += 16;
     }
     narrow(cells)
 }

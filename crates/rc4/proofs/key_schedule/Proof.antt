@@ -1,4 +1,4 @@
--- The box is that after i rounds in each turn of `key_schedule`, and so is j, mod 256. Of the eight rounds of a turn, k are done in the inner loop.
+-- The box is that after i rounds in each turn of `key_schedule`, and so is j, mod 256. Of the sixteen rounds of a turn, k are done in the inner loop.
 use mathlib.Core.Path.{_≡_, _∙_}
 use Prim.Native.Nat.{_+_, _%_, _-_, _≤_}
 use native.Mathlib.Nat.{add-zero, add-assoc}
@@ -9,13 +9,13 @@ use Rattle.rc4.proofs.key_schedule.Statement.{statement}
 use Rattle.rc4.proofs.key_schedule.Tie as tie
 
 abbrev Inv-loop2 : tie.InvT-loop2
-Inv-loop2 key cells₀ place₀ j₀ i k₀ cells place j k = Mixed key cells place j (i + k) × (k ≤ 8)
+Inv-loop2 key cells₀ place₀ j₀ i k₀ cells place j k = Mixed key cells place j (i + k) × (k ≤ 16)
 
 abbrev μ-loop2 : tie.MeasureT-loop2
-μ-loop2 key cells₀ place₀ j₀ i k₀ cells place j k = 8 - k
+μ-loop2 key cells₀ place₀ j₀ i k₀ cells place j k = 16 - k
 
 abbrev Inv-loop : tie.InvT-loop
-Inv-loop key cells₀ place₀ j₀ i₀ cells place j i = Mixed key cells place j i × (i ≤ 256) × (i % 8 ≡ 0)
+Inv-loop key cells₀ place₀ j₀ i₀ cells place j i = Mixed key cells place j i × (i ≤ 256) × (i % 16 ≡ 0)
 
 abbrev μ-loop : tie.MeasureT-loop
 μ-loop key cells₀ place₀ j₀ i₀ cells place j i = 256 - i
@@ -64,7 +64,7 @@ loop-less c = search needs
 loop-again : tie.Need-loop-again Inv-loop2 μ-loop2 Inv-loop μ-loop
 loop-again c =
     let l = c .before .loop2 in
-    let all : l .k ≡ 8 = omega arith in
+    let all : l .k ≡ 16 = omega arith in
     (rw all at (l .inv .0), omega arith, omega arith)
 
 narrow-requires : tie.Need-narrow-requires Inv-loop2 μ-loop2 Inv-loop μ-loop
