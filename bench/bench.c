@@ -1,17 +1,31 @@
 /* The library against plain C and OpenSSL in one run: short bursts in turn, the best of many. No result fails anything.
    OpenSSL by its low-level calls, which fetch nothing and so are its fastest on short texts; HMAC and packets are put together
-   from them here. */
+   from them here.
+   bench           the table; instructions by the machine's counter, where it is there to be read
+   bench FILE      the table; instructions from FILE, the library's and plain C's for each row
+   bench count     under callgrind, started with its collecting off: a dump for each number of such a file */
 #define OPENSSL_SUPPRESS_DEPRECATED
-#define _POSIX_C_SOURCE 200809L
+#define _GNU_SOURCE
 #include "plain.h"
+#include <linux/perf_event.h>
 #include <openssl/des.h>
 #include <openssl/md4.h>
 #include <openssl/rc4.h>
 #include <openssl/sha.h>
+#include <stdbool.h>
 #include <stdio.h>
 #include <stdlib.h>
 #include <string.h>
+#include <sys/ioctl.h>
+#include <sys/syscall.h>
 #include <time.h>
+#include <unistd.h>
+#if __has_include(<valgrind/callgrind.h>)
+#include <valgrind/callgrind.h>
+#else
+#define CALLGRIND_TOGGLE_COLLECT (void)0
+#define CALLGRIND_DUMP_STATS (void)0
+#endif
 
 /* What crate bench exports. */
 uint8_t bench_md4(const octet *text, size_t n, octet *out, size_t room);
@@ -21,15 +35,22 @@ uint8_t bench_hmac_sha256(const octet *key, size_t k, const octet *text, size_t 
 uint8_t bench_des(const octet *key, size_t k, const octet *block, size_t n, octet *out, size_t room);
 uint8_t bench_rc4(const octet *key, size_t k, const octet *text, size_t n, octet *out, size_t room);
 uint8_t bench_key_changes(const octet *start, size_t a, const octet *session, size_t b, size_t n, octet *out, size_t room);
-uint8_t bench_seal(const octet *start, size_t a, const octet *session, size_t b, uint16_t count, const octet *plain, size_t n,
-                   octet *out, size_t room);
-uint8_t bench_open(const octet *start, size_t a, const octet *session, size_t b, uint16_t count, const octet *packet, size_t n,
-                   octet *out, size_t room);
+uint8_t bench_seal(bool bits40, const octet *start, size_t a, const octet *session, size_t b, uint16_t count, const octet *plain,
+                   size_t n, octet *out, size_t room);
+uint8_t bench_open(bool bits40, const octet *start, size_t a, const octet *session, size_t b, uint16_t count, const octet *packet,
+                   size_t n, octet *out, size_t room);
 
 enum { BURSTS = 400, LONGEST = 65535 };
 
-/* One thing measured: three ways to do it, on inputs of a size, and how many octets it gives. */
-struct measure { const char *name; void (*ours)(size_t), (*plain)(size_t), (*openssl)(size_t); size_t size, gives; };
+/* One thing measured: three ways to do it, on inputs of a size, and how many octets it gives; of packets, the link's strength and
+   the receiver's distance. */
+struct measure {
+    const char *name;
+    void (*ours)(size_t), (*plain)(size_t), (*openssl)(size_t);
+    size_t size, gives;
+    int bits;
+    unsigned distance;
+};
 
 static octet text[LONGEST], out[LONGEST], key[32];
 
@@ -115,35 +136,37 @@ static void openssl_rc4(size_t n)
 
 static void ours_changes(size_t n) { bench_key_changes(key, 16, key + 16, 16, n, out, 16); }
 static void plain_changes_of(size_t n) { plain_key_changes(128, key, key + 16, n, out); }
-static void openssl_changes(size_t n)
+static void openssl_changed(int bits, const octet *start, const octet *session, size_t n)
 {
+    static const octet head[3] = {0xd1, 0x26, 0x9e};
+    size_t k = bits == 128 ? 16 : 8;
     octet hashed[112], interim[20];
-    RC4_KEY k;
-    memcpy(hashed, key, 16);
-    memset(hashed + 16, 0x00, 40);
-    memcpy(hashed + 56, key + 16, 16);
-    memset(hashed + 72, 0xf2, 40);
+    RC4_KEY cipher;
+    memcpy(hashed, start, k);
+    memset(hashed + k, 0x00, 40);
+    memcpy(hashed + k + 40, session, k);
+    memset(hashed + 2 * k + 40, 0xf2, 40);
     while (n-- > 0) {
         SHA_CTX c;
         SHA1_Init(&c);
-        SHA1_Update(&c, hashed, 112);
+        SHA1_Update(&c, hashed, 2 * k + 80);
         SHA1_Final(interim, &c);
-        RC4_set_key(&k, 16, interim);
-        RC4(&k, 16, interim, hashed + 56);
+        RC4_set_key(&cipher, k, interim);
+        RC4(&cipher, k, interim, hashed + k + 40);
+        if (bits == 40)
+            memcpy(hashed + k + 40, head, 3);
     }
-    memcpy(out, hashed + 56, 16);
+    memcpy(out, hashed + k + 40, k);
 }
+static void openssl_changes(size_t n) { openssl_changed(128, key, key + 16, n); }
 
-/* A longest packet, sealed; a shorter one has its first octets. OpenSSL's side tests nothing and keeps no record. */
+/* The link that packets go over: a sender's at count 4,095, or a receiver's that is `distance` packets behind it.
+   The packet is a longest one, sealed for it; a shorter one has its first octets. OpenSSL's side tests nothing and keeps no record. */
+static struct plain_link link_now;
+static unsigned distance;
 static octet packet[1502];
 
-static struct plain_link link_at(void)
-{
-    struct plain_link l = {128, {0}, {0}, 4095};
-    memcpy(l.start, key, 16);
-    memcpy(l.session, key + 16, 16);
-    return l;
-}
+static size_t key_octets(void) { return link_now.bits == 128 ? 16 : 8; }
 
 /* The text as a plain packet of the Internet Protocol. */
 static const octet *plain_packet(void)
@@ -153,47 +176,77 @@ static const octet *plain_packet(void)
     return text;
 }
 
-static void ours_seal(size_t n) { bench_seal(key, 16, key + 16, 16, 4095, plain_packet(), n, out, n + 4); }
-static void plain_seal_of(size_t n) { plain_seal(link_at(), plain_packet(), n, out, n + 4); }
+static void link_set(int bits, unsigned behind)
+{
+    static const octet head[3] = {0xd1, 0x26, 0x9e};
+    struct plain_link sender;
+    memset(&link_now, 0, sizeof link_now);
+    link_now.bits = bits;
+    memcpy(link_now.start, key, key_octets());
+    memcpy(link_now.session, key + 16, key_octets());
+    memcpy(link_now.session, head, bits == 40 ? 3 : 0);
+    distance = behind;
+    sender = link_now;
+    sender.count = 4095;
+    plain_key_changes(bits, link_now.start, link_now.session, behind - 1, sender.session);
+    plain_seal(sender, plain_packet(), 1498, packet, sizeof packet);
+    link_now.count = 4096 - behind;
+}
+
+static void ours_seal(size_t n)
+{
+    size_t k = key_octets();
+    bench_seal(link_now.bits == 40, link_now.start, k, link_now.session, k, link_now.count, plain_packet(), n, out, n + 4);
+}
+static void plain_seal_of(size_t n) { plain_seal(link_now, plain_packet(), n, out, n + 4); }
 static void openssl_seal(size_t n)
 {
     static const octet front[4] = {0x00, 0xfd, 0x90, 0x00};
     RC4_KEY k;
-    openssl_changes(1);
-    RC4_set_key(&k, 16, out);
+    openssl_changed(link_now.bits, link_now.start, link_now.session, 1);
+    RC4_set_key(&k, key_octets(), out);
     memcpy(out, front, 4);
     RC4(&k, n, plain_packet(), out + 4);
 }
 
-static void ours_open(size_t n) { bench_open(key, 16, key + 16, 16, 4095, packet, n + 4, out, n); }
-static void plain_open_of(size_t n) { plain_open(link_at(), packet, n + 4, out, n); }
+static void ours_open(size_t n)
+{
+    size_t k = key_octets();
+    bench_open(link_now.bits == 40, link_now.start, k, link_now.session, k, link_now.count, packet, n + 4, out, n);
+}
+static void plain_open_of(size_t n) { plain_open(link_now, packet, n + 4, out, n); }
 static void openssl_open(size_t n)
 {
     RC4_KEY k;
-    openssl_changes(1);
-    RC4_set_key(&k, 16, out);
+    openssl_changed(link_now.bits, link_now.start, link_now.session, distance);
+    RC4_set_key(&k, key_octets(), out);
     RC4(&k, n, packet + 4, out);
 }
 
 static const struct measure measures[] = {
-    {"MD4, 112 octets", ours_md4, plain_md4_of, openssl_md4, 112, 16},
-    {"MD4, 65,535 octets", ours_md4, plain_md4_of, openssl_md4, 65535, 16},
-    {"SHA-1, 112 octets", ours_sha1, plain_sha1_of, openssl_sha1, 112, 20},
-    {"SHA-1, 65,535 octets", ours_sha1, plain_sha1_of, openssl_sha1, 65535, 20},
-    {"SHA-256, 112 octets", ours_sha256, plain_sha256_of, openssl_sha256, 112, 32},
-    {"SHA-256, 65,535 octets", ours_sha256, plain_sha256_of, openssl_sha256, 65535, 32},
-    {"HMAC-SHA256, 112 octets", ours_hmac, plain_hmac_of, openssl_hmac, 112, 32},
-    {"HMAC-SHA256, 65,535 octets", ours_hmac, plain_hmac_of, openssl_hmac, 65535, 32},
-    {"DES, key and block", ours_des, plain_des_of, openssl_des, 8, 8},
-    {"RC4, fresh key, 1,500 octets", ours_rc4, plain_rc4_of, openssl_rc4, 1500, 1500},
-    {"one key change, 128 bits", ours_changes, plain_changes_of, openssl_changes, 1, 16},
-    {"4,095 key changes, 128 bits", ours_changes, plain_changes_of, openssl_changes, 4095, 16},
-    {"seal, 64 octets", ours_seal, plain_seal_of, openssl_seal, 64, 68},
-    {"seal, 576 octets", ours_seal, plain_seal_of, openssl_seal, 576, 580},
-    {"seal, 1,498 octets", ours_seal, plain_seal_of, openssl_seal, 1498, 1502},
-    {"open, 64 octets", ours_open, plain_open_of, openssl_open, 64, 64},
-    {"open, 576 octets", ours_open, plain_open_of, openssl_open, 576, 576},
-    {"open, 1,498 octets", ours_open, plain_open_of, openssl_open, 1498, 1498},
+    {"MD4, 112 octets", ours_md4, plain_md4_of, openssl_md4, 112, 16, 128, 1},
+    {"MD4, 65,535 octets", ours_md4, plain_md4_of, openssl_md4, 65535, 16, 128, 1},
+    {"SHA-1, 112 octets", ours_sha1, plain_sha1_of, openssl_sha1, 112, 20, 128, 1},
+    {"SHA-1, 65,535 octets", ours_sha1, plain_sha1_of, openssl_sha1, 65535, 20, 128, 1},
+    {"SHA-256, 112 octets", ours_sha256, plain_sha256_of, openssl_sha256, 112, 32, 128, 1},
+    {"SHA-256, 65,535 octets", ours_sha256, plain_sha256_of, openssl_sha256, 65535, 32, 128, 1},
+    {"HMAC-SHA256, 112 octets", ours_hmac, plain_hmac_of, openssl_hmac, 112, 32, 128, 1},
+    {"HMAC-SHA256, 65,535 octets", ours_hmac, plain_hmac_of, openssl_hmac, 65535, 32, 128, 1},
+    {"DES, key and block", ours_des, plain_des_of, openssl_des, 8, 8, 128, 1},
+    {"RC4, fresh key, 1,500 octets", ours_rc4, plain_rc4_of, openssl_rc4, 1500, 1500, 128, 1},
+    {"one key change, 128 bits", ours_changes, plain_changes_of, openssl_changes, 1, 16, 128, 1},
+    {"4,095 key changes, 128 bits", ours_changes, plain_changes_of, openssl_changes, 4095, 16, 128, 1},
+    {"seal, 64 octets", ours_seal, plain_seal_of, openssl_seal, 64, 68, 128, 1},
+    {"seal, 576 octets", ours_seal, plain_seal_of, openssl_seal, 576, 580, 128, 1},
+    {"seal, 1,498 octets", ours_seal, plain_seal_of, openssl_seal, 1498, 1502, 128, 1},
+    {"open, 64 octets", ours_open, plain_open_of, openssl_open, 64, 64, 128, 1},
+    {"open, 576 octets", ours_open, plain_open_of, openssl_open, 576, 576, 128, 1},
+    {"open, 1,498 octets", ours_open, plain_open_of, openssl_open, 1498, 1498, 128, 1},
+    {"seal, 64 octets, 40 bits", ours_seal, plain_seal_of, openssl_seal, 64, 68, 40, 1},
+    {"seal, 1,498 octets, 40 bits", ours_seal, plain_seal_of, openssl_seal, 1498, 1502, 40, 1},
+    {"open, 64 octets, 40 bits", ours_open, plain_open_of, openssl_open, 64, 64, 40, 1},
+    {"open, 1,498 octets, 40 bits", ours_open, plain_open_of, openssl_open, 1498, 1498, 40, 1},
+    {"open, 1,498 octets, 2,047 lost before", ours_open, plain_open_of, openssl_open, 1498, 1498, 128, 2048},
 };
 
 static double now(void)
@@ -222,7 +275,30 @@ static void agree(const struct measure *m, void (*f)(size_t), const octet *expec
     }
 }
 
-static void measured(const struct measure *m)
+/* The machine's counter of instructions, or -1. */
+static int counter(void)
+{
+    struct perf_event_attr a = {.type = PERF_TYPE_HARDWARE, .size = sizeof a, .config = PERF_COUNT_HW_INSTRUCTIONS, .exclude_kernel = 1};
+    return syscall(SYS_perf_event_open, &a, 0, -1, -1, 0);
+}
+
+/* How many instructions one way takes, the second time it is done; 0 where that is not known. */
+static long counted(int fd, void (*f)(size_t), size_t size)
+{
+    long n = 0;
+
+    f(size);
+    if (fd >= 0)
+        ioctl(fd, PERF_EVENT_IOC_RESET, 0);
+    CALLGRIND_TOGGLE_COLLECT;
+    f(size);
+    CALLGRIND_TOGGLE_COLLECT;
+    if (fd < 0 || read(fd, &n, sizeof n) != sizeof n)
+        n = 0;
+    return n;
+}
+
+static void measured(const struct measure *m, const long *instructions)
 {
     static octet expected[LONGEST];
     void (*ways[3])(size_t) = {m->ours, m->plain, m->openssl};
@@ -239,20 +315,41 @@ static void measured(const struct measure *m)
             double t = burst(ways[w], m->size, times);
             best[w] = t < best[w] ? t : best[w];
         }
-    printf("| %s | %.0f | %.0f | %.0f | %.2f | %.2f |\n", m->name, best[0], best[1], best[2], best[1] / best[0], best[2] / best[0]);
+    printf("| %s | %.0f | %.0f | %.0f | %.2f | %.2f |", m->name, best[0], best[1], best[2], best[1] / best[0], best[2] / best[0]);
+    for (int w = 0; w < 2; w++)
+        instructions[w] ? printf(" %ld |", instructions[w]) : printf(" |");
+    printf("\n");
     fflush(stdout);
 }
 
-int main(void)
+int main(int words, char **word)
 {
+    bool only_count = words == 2 && strcmp(word[1], "count") == 0;
+    FILE *counts = words == 2 && !only_count ? fopen(word[1], "r") : NULL;
+    int fd = counter();
+
     for (size_t k = 0; k < sizeof text; k++)
         text[k] = 7 * k + k / 251 + 3;
     for (size_t k = 0; k < sizeof key; k++)
         key[k] = 29 * k + 11;
-    plain_seal(link_at(), plain_packet(), 1498, packet, sizeof packet);
-    printf("| Measured | Udukemb, ns | plain C, ns | OpenSSL, ns | plain C's time over ours | OpenSSL's time over ours |\n");
-    printf("|---|---|---|---|---|---|\n");
-    for (size_t k = 0; k < sizeof measures / sizeof *measures; k++)
-        measured(&measures[k]);
+    if (!only_count) {
+        printf("| Measured | Udukemb, ns | plain C, ns | OpenSSL, ns | plain C's time over ours | OpenSSL's time over ours "
+               "| Udukemb, instructions | plain C, instructions |\n");
+        printf("|---|---|---|---|---|---|---|---|\n");
+    }
+    for (size_t k = 0; k < sizeof measures / sizeof *measures; k++) {
+        const struct measure *m = &measures[k];
+        void (*ways[2])(size_t) = {m->ours, m->plain};
+        long n[2];
+        link_set(m->bits, m->distance);
+        for (int w = 0; w < 2; w++) {
+            n[w] = counted(fd, ways[w], m->size);
+            CALLGRIND_DUMP_STATS;
+            if (counts && fscanf(counts, "%ld", &n[w]) != 1)
+                n[w] = 0;
+        }
+        if (!only_count)
+            measured(m, n);
+    }
     return 0;
 }

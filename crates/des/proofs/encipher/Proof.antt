@@ -43,8 +43,11 @@ permute-inverse-requires : tie.Need-permute-inverse-requires
 permute-inverse-requires c κs = search needs
 
 returns : tie.Need-returns
-returns c =
-    enciphered-is _ _ _ _ _ _ _ (c .before .before .before .before .before .before .before .before .permute-initial .ensures) (c .before .before .before .iterate .ensures) (c .before .before .wide .ensures) (c .before .wide2 .ensures) (c .permute-inverse .ensures)
+returns c = let wide2 = c .before in
+    let wide = wide2 .before in
+    let iterate = wide .before in
+    let permute-initial = iterate .before .before .before .before .before in
+    enciphered-is _ _ _ _ _ _ _ (permute-initial .permute-initial .ensures) (iterate .iterate .ensures) (wide .wide .ensures) (wide2 .wide2 .ensures) (c .permute-inverse .ensures)
 
 pub encipher-spec : {M : Type 1} → statement M
 encipher-spec =

@@ -28,8 +28,12 @@ long-octets-requires : tie.Need-long-octets-requires
 long-octets-requires c κs = search needs
 
 returns-3 : tie.Need-returns-3
-returns-3 c =
-    answered _ _ _ _ _ _ (c .before .before .before .before .before .if1 .left) (c .before .before .before .before .if2 .left) (c .before .before .before .join .ensures) (c .before .before .join2 .ensures) (c .before .encipher .ensures) (c .long-octets .ensures)
+returns-3 c = let encipher = c .before in
+    let join2 = encipher .before in
+    let join = join2 .before in
+    let second = join .before in
+    let first = second .before in
+    answered _ _ _ _ _ _ (first .if1 .left) (second .if2 .left) (join .join .ensures) (join2 .join2 .ensures) (encipher .encipher .ensures) (c .long-octets .ensures)
 
 pub encrypt-spec : {M : Type 1} → statement M
 encrypt-spec =

@@ -64,15 +64,22 @@ loop-less c = search needs
 
 loop-again : tie.Need-loop-again Inv-loop μ-loop
 loop-again c =
-    let ec = shift-more choice1C _ (c .before .before .before .before .before .before .before .loop .n) _ _ _ (c .before .before .before .before .before .before .before .loop .inv .3) (c .before .before .before .before .before .shifts-of .ensures .0) (c .before .before .before .before .shift-left .ensures .0) in
-    let ed = shift-more choice1D _ (c .before .before .before .before .before .before .before .loop .n) _ _ _ (c .before .before .before .before .before .before .before .loop .inv .4) (c .before .before .before .before .before .shifts-of .ensures .0) (c .before .before .before .shift-left2 .ensures .0) in (
+    let chosen = c .before .before in
+    let d = chosen .before in
+    let c′ = d .before in
+    let told = c′ .before in
+    let l = told .before .before .loop in
+    let begun = told .before .before .before .before .before .before .before .before .before in
+    let ec = shift-more choice1C _ (l .n) _ _ _ (l .inv .3) (told .shifts-of .ensures .0) (c′ .shift-left .ensures .0) in
+    let ed = shift-more choice1D _ (l .n) _ _ _ (l .inv .4) (told .shifts-of .ensures .0) (d .shift-left2 .ensures .0) in
+    let front = chosen .choose-2 .ensures .1 28 24 (begun .pre .2) in
+    let back = c .before .choose-22 .ensures .1 0 0 (begun .pre .3) in (
       omega arith,
-      c .before .before .before .before .shift-left .ensures .1,
-      c .before .before .before .shift-left2 .ensures .1,
+      c′ .shift-left .ensures .1,
+      d .shift-left2 .ensures .1,
       ec,
       ed,
-      iterated-more _ _ (c .before .before .before .before .before .before .before .loop .n) _ _ _ _ _ _ ec ed (c .before .before .before .shift-left2 .ensures .1) (c .before .before .choose-2 .ensures .1 28 24 (c .before .before .before .before .before .before .before .before .before .before .before .before .before .before .pre .2))
-          (c .before .choose-22 .ensures .1 0 0 (c .before .before .before .before .before .before .before .before .before .before .before .before .before .before .pre .3)) (c .before .before .before .before .before .before .before .loop .inv .5) (c .round .ensures),
+      iterated-more _ _ (l .n) _ _ _ _ _ _ ec ed (d .shift-left2 .ensures .1) front back (l .inv .5) (c .round .ensures),
     )
 
 returns : tie.Need-returns Inv-loop μ-loop

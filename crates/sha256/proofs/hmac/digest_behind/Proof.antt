@@ -21,8 +21,12 @@ octets-in-requires : tie.Need-octets-in-requires
 octets-in-requires c κs = search needs
 
 returns : tie.Need-returns
-returns c = let whole : length (c .before .before .before .before .before .before .args .t1) ≡ 64 = search needs in
-    behind _ _ whole (c .before .before .before .before .initial .ensures) (c .before .before .compress .ensures) (c .before .closed .ensures) (c .octets-in .ensures)
+returns c = let closed = c .before in
+    let compress = closed .before in
+    let initial = compress .before .before in
+    let begun = initial .before .before in
+    let whole : length (begun .args .t1) ≡ 64 = search needs in
+    behind _ _ whole (initial .initial .ensures) (compress .compress .ensures) (closed .closed .ensures) (c .octets-in .ensures)
 
 pub digest-behind-spec : {M : Type 1} → statement M
 digest-behind-spec =

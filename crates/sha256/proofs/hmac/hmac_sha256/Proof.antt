@@ -34,7 +34,13 @@ digest-behind-requires-2 : tie.Need-digest-behind-requires-2
 digest-behind-requires-2 c κs = search needs
 
 returns-3 : tie.Need-returns-3
-returns-3 c = coded _ _ (c .before .before .before .before .before .key-block .ensures) (c .before .before .before .before .xored .ensures) (c .before .before .before .digest-behind .ensures) (c .before .before .xored2 .ensures) (c .digest-behind2 .ensures) (c .before .before .before .before .before .before .before .if1 .left) (c .before .before .before .before .before .before .if2 .left)
+returns-3 c = let xored2 = c .before .before in
+    let digest-behind = xored2 .before in
+    let xored = digest-behind .before in
+    let key-block = xored .before in
+    let second = key-block .before in
+    let first = second .before in
+    coded _ _ (key-block .key-block .ensures) (xored .xored .ensures) (digest-behind .digest-behind .ensures) (xored2 .xored2 .ensures) (c .digest-behind2 .ensures) (first .if1 .left) (second .if2 .left)
 
 pub hmac-sha256-spec : {M : Type 1} → statement M
 hmac-sha256-spec =

@@ -23,8 +23,13 @@ copy-requires : tie.Need-copy-requires
 copy-requires c κs = search needs
 
 returns : tie.Need-returns
-returns c = let digest = digest-is _ (c .before .before .before .before .before .before .initial .ensures) (c .before .before .before .before .before .closed .ensures) (c .before .before .before .before .octets-in .ensures) in
-    key-long _ digest (c .before .copy .ensures) (c .before .before .before .before .before .before .before .if1 .taken)
+returns c = let copy = c .before in
+    let octets-in = copy .before .before .before in
+    let closed = octets-in .before in
+    let initial = closed .before in
+    let first = initial .before in
+    let digest = digest-is _ (initial .initial .ensures) (closed .closed .ensures) (octets-in .octets-in .ensures) in
+    key-long _ digest (copy .copy .ensures) (first .if1 .taken)
 
 slice-aggregate-copy-3 : tie.Need-slice-aggregate-copy-3
 slice-aggregate-copy-3 c = search needs
