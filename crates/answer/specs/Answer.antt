@@ -62,5 +62,5 @@ onDone (suc n) result refused = refused
 unfoldable pub oneCode : ℕ → List ℕ → ℕ
 oneCode n a = firstOf ((size, wrong n a) ∷ [])
 
-unfoldable pub twoCode : ℕ → List ℕ → ℕ → List ℕ → ℕ
+unfoldable pub twoCode : (n : ℕ) (a : List ℕ) (m : ℕ) (b : List ℕ) → ℕ
 twoCode n a m b = firstOf ((size, wrong n a) ∷ (size, wrong m b) ∷ [])

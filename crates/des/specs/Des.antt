@@ -72,7 +72,7 @@ unfoldable pub enciphered : ℕ → ℕ → ℕ
 enciphered key x = selected 64 inverse (preoutput (iterated key (selected 64 initial x) 16))
 
 -- a block of octets enciphered under a key of octets
-unfoldable pub encrypted : List ℕ → List ℕ → List ℕ
+unfoldable pub encrypted : (key block : List ℕ) → List ℕ
 encrypted key block = bigEndian 8 (enciphered (fromBigEndian key) (fromBigEndian block))
 
 -- octets in a key, without parity bits (01, "Lengths")
@@ -84,11 +84,11 @@ abbrev pub blockOctets : ℕ
 blockOctets = 8
 
 -- the number that the call answers
-abbrev pub encryptCode : List ℕ → List ℕ → ℕ
+abbrev pub encryptCode : (key block : List ℕ) → ℕ
 encryptCode key block = firstOf ((size, wrong keyOctets key) ∷ (size, wrong blockOctets block) ∷ [])
 
 -- the answer to a key and a block of any lengths
-unfoldable pub encryptAnswer : List ℕ → List ℕ → Block
+unfoldable pub encryptAnswer : (key block : List ℕ) → Block
 encryptAnswer key block =
     record {
       answer = encryptCode key block;

@@ -40,11 +40,11 @@ pub record Given : Type 0 where
   pub buffer : List ℕ
 
 -- the number that the result came with, then 2: "the lent output is shorter than the result"
-abbrev pub givenNumber : ℕ → List ℕ → List ℕ → ℕ
+abbrev pub givenNumber : (code : ℕ) (result out : List ℕ) → ℕ
 givenNumber code result out = onDone code (firstOf ((room, ltb (length out) (length result)) ∷ [])) code
 
 -- "On 0 only the result's octets are written; the rest of the buffer stays"
-unfoldable pub given : ℕ → List ℕ → List ℕ → Given
+unfoldable pub given : (code : ℕ) (result out : List ℕ) → Given
 given code result out =
     record { number = givenNumber code result out; buffer = onDone (givenNumber code result out) (written result out) out }
 
@@ -53,12 +53,12 @@ unfoldable pub checkOf : Checked → Check
 checkOf c = record { answer = c .answer; yes = c .yes }
 
 -- NT-Response, authenticator string, base key and binding key: the number and the octets of the call's answer
-unfoldable pub ntResponseGiven : List ℕ → List ℕ → List ℕ → List ℕ → List ℕ → Given
+unfoldable pub ntResponseGiven : (authenticator peer name password out : List ℕ) → Given
 ntResponseGiven authenticator peer name password out =
     let a : NtResponse = ntResponseAnswer authenticator peer name password in
     given (a .answer) (a .octets) out
 
-unfoldable pub authenticatorStringGiven : List ℕ → List ℕ → List ℕ → List ℕ → List ℕ → List ℕ → Given
+unfoldable pub authenticatorStringGiven : (password response peer authenticator name out : List ℕ) → Given
 authenticatorStringGiven password response peer authenticator name out =
     let a : AuthenticatorString = authenticatorStringAnswer password response peer authenticator name in
     given (a .answer) (a .octets) out
@@ -70,29 +70,29 @@ roleOf server = pick server Server Client
 abbrev pub directionOf : Bool → Direction
 directionOf send = pick send Send Receive
 
-unfoldable pub baseKeyGiven : Bool → List ℕ → List ℕ → List ℕ → Given
+unfoldable pub baseKeyGiven : (server : Bool) (send receive out : List ℕ) → Given
 baseKeyGiven server send receive out =
     let a : Key = baseKeyAnswer (roleOf server) send receive in
     given (a .answer) (a .octets) out
 
-unfoldable pub bindingKeyGiven : List ℕ → List ℕ → Given
+unfoldable pub bindingKeyGiven : (material out : List ℕ) → Given
 bindingKeyGiven material out =
     let a : Key = bindingKeyAnswer material in
     given (a .answer) (a .octets) out
 
 -- the start key from credentials: password hash, hash-hash, master key, start key
-unfoldable pub masterKeyFrom : List ℕ → List ℕ → List ℕ
+unfoldable pub masterKeyFrom : (password response : List ℕ) → List ℕ
 masterKeyFrom password response = masterKey (hashHash (passwordHash password)) response
 
-unfoldable pub startKeyFrom : Strength → Role → Direction → List ℕ → List ℕ → List ℕ
+unfoldable pub startKeyFrom : (s : Strength) (role : Role) (direction : Direction) (password response : List ℕ) → List ℕ
 startKeyFrom s role direction password response = startKey s role direction (masterKeyFrom password response)
 
 -- "Password: 0 to 512 octets, even"; "NT-Response: 24"
-abbrev pub credentialRows : List ℕ → List ℕ → List (ℕ × Bool)
+abbrev pub credentialRows : (password response : List ℕ) → List (ℕ × Bool)
 credentialRows password response = passwordRows password ++ (size, wrong responseLength response) ∷ []
 
 -- 8 where the number is no strength (house), before all else
-unfoldable pub startKeyGiven : ℕ → Bool → Bool → List ℕ → List ℕ → List ℕ → Given
+unfoldable pub startKeyGiven : (bits : ℕ) (server send : Bool) (password response out : List ℕ) → Given
 startKeyGiven bits server send password response out =
     given (firstOf ((strength, noStrength bits) ∷ credentialRows password response))
     (startKeyFrom (strengthOf bits) (roleOf server) (directionOf send) password response) out
@@ -120,14 +120,14 @@ abbrev pub allowedOf : Bool → Bool → Bool → Strengths
 allowedOf bits40 bits56 bits128 = record { bits40 = bits40; bits56 = bits56; bits128 = bits128 }
 
 -- "Option reply: 1, 8", then 2
-unfoldable pub optionGiven : List ℕ → Strengths → List ℕ → Given
+unfoldable pub optionGiven : (option : List ℕ) (allowed : Strengths) (out : List ℕ) → Given
 optionGiven option allowed out = given (replyCodeOf (replyAnswer option allowed)) (replyOctets (replyAnswer option allowed)) out
 
-unfoldable pub optionReply : List ℕ → Strengths → List ℕ → Reply
+unfoldable pub optionReply : (option : List ℕ) (allowed : Strengths) (out : List ℕ) → Reply
 optionReply option allowed out = replyOf (replyAnswer option allowed) (optionGiven option allowed out .number)
 
 -- a new link: 8 where the number is no strength (house), before all else; "Start key: 16 at 128 bits, else 8"
-unfoldable pub newLinkGiven : ℕ → List ℕ → List ℕ → Given
+unfoldable pub newLinkGiven : (bits : ℕ) (start out : List ℕ) → Given
 newLinkGiven bits start out =
     given (firstOf ((strength, noStrength bits) ∷ (size, wrong (keyLength (strengthOf bits)) start) ∷ []))
     (recordOctets (newLink (strengthOf bits) start .link)) out
@@ -150,19 +150,19 @@ linkedBy r =
     }
 
 -- "Refusals 1 to 9 hand back the record given and change no lent octet"
-abbrev pub unchanged : ℕ → List ℕ → List ℕ → Linked
+abbrev pub unchanged : (number : ℕ) (octets out : List ℕ) → Linked
 unchanged number octets out = record { number = number; changed = 0; octets = octets; buffer = out }
 
 -- 7 where the octets hold no record; otherwise the call on the record that they hold, and the record that it hands back written over them
-unfoldable pub linked : (Link → Result) → List ℕ → List ℕ → Linked
+unfoldable pub linked : (call : (Link → Result)) (octets out : List ℕ) → Linked
 linked call octets out =
     let read : RecordRead = recordRead octets in
     onDone (read .answer) (linkedBy (call (read .link))) (unchanged (read .answer) octets out)
 
-unfoldable pub sealLinked : List ℕ → List ℕ → List ℕ → Linked
+unfoldable pub sealLinked : (octets plain out : List ℕ) → Linked
 sealLinked octets plain out = linked (λ l. sealResult longestPlain l plain out) octets out
 
-unfoldable pub openLinked : List ℕ → List ℕ → List ℕ → Linked
+unfoldable pub openLinked : (octets packet out : List ℕ) → Linked
 openLinked octets packet out = linked (λ l. openResult longestPlain l packet out) octets out
 
 unfoldable pub openedBy : Linked → Opened

@@ -13,7 +13,7 @@ use Rattle.mppe_record.specs.Record.{strengthOf, recordLength}
 use Rattle.host.specs.Host.{Linked, newLinkGiven, linkedBy, sealLinked, openLinked}
 
 -- "Both ends begin with one and the same record, that of a new link that answered 0": what such a call leaves in 35 lent octets
-abbrev pub Begun : ℕ → List ℕ → List ℕ → Type 0
+abbrev pub Begun : (bits : ℕ) (start octets : List ℕ) → Type 0
 Begun bits start octets =
     (lent : List ℕ) × (length lent ≡ recordLength) × (newLinkGiven bits start lent ≡ record { number = done; buffer = octets })
 

@@ -16,5 +16,5 @@ unfoldable pub headerCode : ℕ → ℕ → ℕ → ℕ → ℕ
 headerCode h far n lent = firstOf ((flags, lacks bitA h) ∷ (flags, lacks bitD h) ∷ (repeat, eqb far 0) ∷ (room, ltb lent n) ∷ [])
 
 -- what open gives for data behind a header
-unfoldable pub dataResult : Link → ℕ → List ℕ → List ℕ → Result
+unfoldable pub dataResult : (l : Link) (h : ℕ) (text out : List ℕ) → Result
 dataResult l h text out = openedBy (firstOf (headerRows l h ++ dataRows l h text (length out))) l h text out

@@ -50,7 +50,7 @@ abbrev pub sessionKeyIn : Link → List ℕ
 sessionKeyIn l = take (keyLength (l .strength)) (l .session)
 
 -- a record of its parts
-abbrev pub linkOf : Strength → List ℕ → List ℕ → ℕ → Link
+abbrev pub linkOf : (s : Strength) (start session : List ℕ) (count : ℕ) → Link
 linkOf s start session count = record { strength = s; start = placed start; session = placed session; count = count }
 
 -- a record with another session key and count in place of its own
@@ -90,7 +90,7 @@ abbrev pub header : ℕ → List ℕ
 header count = bigEndian 2 (bitA + bitD + count)
 
 -- "Sealed: 00 FD, two header octets, data"; "RC4 freshly keyed with the session key over the plain packet"
-unfoldable pub sealedPacket : List ℕ → ℕ → List ℕ → List ℕ
+unfoldable pub sealedPacket : (session : List ℕ) (count : ℕ) (plain : List ℕ) → List ℕ
 sealedPacket session count plain = 0x00 ∷ 0xFD ∷ header count ++ rc4 session plain
 
 -- the number of a packet's two header octets, and the data behind them
@@ -146,7 +146,7 @@ abbrev pub nextKey : Link → List ℕ
 nextKey l = keyChange (l .strength) (startKeyIn l) (sessionKeyIn l)
 
 -- what seal gives
-unfoldable pub sealResult : ℕ → Link → List ℕ → List ℕ → Result
+unfoldable pub sealResult : (limit : ℕ) (l : Link) (plain out : List ℕ) → Result
 sealResult limit l plain out =
     let code : ℕ = sealCode limit l plain (length out) in
     onDone code
@@ -192,10 +192,10 @@ unfoldable pub openCode : ℕ → Link → List ℕ → ℕ → ℕ
 openCode limit l packet lent = firstOf (openRows limit l packet lent)
 
 -- what open gives for data behind a header, by its number
-abbrev pub openedBy : ℕ → Link → ℕ → List ℕ → List ℕ → Result
+abbrev pub openedBy : (code : ℕ) (l : Link) (h : ℕ) (text out : List ℕ) → Result
 openedBy code l h text out =
     onDone code (finished (changesFor l h) (linkAfter l h) (written (plainFor l h text) out)) (refusal code l out)
 
 -- what open gives
-unfoldable pub openResult : ℕ → Link → List ℕ → List ℕ → Result
+unfoldable pub openResult : (limit : ℕ) (l : Link) (packet out : List ℕ) → Result
 openResult limit l packet out = openedBy (openCode limit l packet (length out)) l (headerIn packet) (dataIn packet) out

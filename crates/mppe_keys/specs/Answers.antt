@@ -14,13 +14,13 @@ unfoldable pub keyAnswer : ℕ → List ℕ → Key
 keyAnswer code key = record { answer = code; octets = onDone code (placed key) (replicate 16 0) }
 
 -- hashes have 16 octets, an NT-Response 24, a master key 16, start and session keys those of their strength
-unfoldable pub masterKeyAnswer : List ℕ → List ℕ → Key
+unfoldable pub masterKeyAnswer : (hashHash response : List ℕ) → Key
 masterKeyAnswer hashHash response = keyAnswer (twoCode 16 hashHash 24 response) (masterKey hashHash response)
 
 unfoldable pub startKeyAnswer : Strength → Role → Direction → List ℕ → Key
 startKeyAnswer s role direction master = keyAnswer (oneCode 16 master) (startKey s role direction master)
 
-unfoldable pub newKeyAnswer : Strength → List ℕ → List ℕ → Key
+unfoldable pub newKeyAnswer : (s : Strength) (start session : List ℕ) → Key
 newKeyAnswer s start session = keyAnswer (twoCode (keyLength s) start (keyLength s) session) (newKey s start session)
 
 unfoldable pub initialKeyAnswer : Strength → List ℕ → Key
@@ -29,12 +29,12 @@ initialKeyAnswer s start = keyAnswer (oneCode (keyLength s) start) (initialKey s
 unfoldable pub reduceAnswer : Strength → List ℕ → Key
 reduceAnswer s key = keyAnswer (oneCode (keyLength s) key) (reduced s key)
 
-unfoldable pub keyChangeAnswer : Strength → List ℕ → List ℕ → Key
+unfoldable pub keyChangeAnswer : (s : Strength) (start session : List ℕ) → Key
 keyChangeAnswer s start session = keyAnswer (twoCode (keyLength s) start (keyLength s) session) (keyChange s start session)
 
-unfoldable pub keyChangesAnswer : Strength → List ℕ → List ℕ → ℕ → Key
+unfoldable pub keyChangesAnswer : (s : Strength) (start session : List ℕ) (n : ℕ) → Key
 keyChangesAnswer s start session n = keyAnswer (twoCode (keyLength s) start (keyLength s) session) (changes s start n session)
 
 -- keys in 16 places, of which the first are read
-unfoldable pub placedChanges : Strength → List ℕ → List ℕ → ℕ → List ℕ
+unfoldable pub placedChanges : (s : Strength) (start session : List ℕ) (n : ℕ) → List ℕ
 placedChanges s start session n = placed (changes s (take (keyLength s) start) n (take (keyLength s) session))

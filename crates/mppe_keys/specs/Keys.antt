@@ -53,7 +53,7 @@ magic3 =
     ∷ 0x20 ∷ 0x74 ∷ 0x68 ∷ 0x65 ∷ 0x20 ∷ 0x73 ∷ 0x65 ∷ 0x6e ∷ 0x64 ∷ 0x20 ∷ 0x6b ∷ 0x65 ∷ 0x79 ∷ 0x2e ∷ []
 
 -- "Master key: first 16 of SHA-1(hash-hash, NT-Response, Magic1)"
-unfoldable pub masterKey : List ℕ → List ℕ → List ℕ
+unfoldable pub masterKey : (hashHash response : List ℕ) → List ℕ
 masterKey hashHash response = take 16 (sha1 (hashHash ++ response ++ magic1))
 
 -- what the client sends and the server receives
@@ -68,7 +68,7 @@ abbrev pub phrase : Role → Direction → List ℕ
 phrase role direction = pick (fromClient role direction) magic2 magic3
 
 -- what is hashed for a key: two parts, with 40 zeros between them and 40 octets 0xF2 behind
-unfoldable pub keyText : List ℕ → List ℕ → List ℕ
+unfoldable pub keyText : (first second : List ℕ) → List ℕ
 keyText first second = first ++ replicate 40 0 ++ second ++ replicate 40 0xF2
 
 -- "Start key: first n of SHA-1(master key, 40 zeros, phrase, 40 octets 0xF2)"
@@ -76,7 +76,7 @@ unfoldable pub startKey : Strength → Role → Direction → List ℕ → List 
 startKey s role direction master = take (keyLength s) (sha1 (keyText master (phrase role direction)))
 
 -- "New-key(start, session): first n of SHA-1(start, 40 zeros, session, 40 octets 0xF2)"
-unfoldable pub newKey : Strength → List ℕ → List ℕ → List ℕ
+unfoldable pub newKey : (s : Strength) (start session : List ℕ) → List ℕ
 newKey s start session = take (keyLength s) (sha1 (keyText start session))
 
 -- "at 40 bits the first octets become D1 26 9E, at 56 bits D1, at 128 nothing"
@@ -100,15 +100,15 @@ unfoldable pub initialKey : Strength → List ℕ → List ℕ
 initialKey s start = reduced s (newKey s start start)
 
 -- RC4 freshly keyed, applied to a text
-abbrev pub rc4 : List ℕ → List ℕ → List ℕ
+abbrev pub rc4 : (key text : List ℕ) → List ℕ
 rc4 key text = run (keySchedule key) text
 
 -- "A key change: interim = new-key(start, session); the session key becomes reduce(RC4 keyed with interim, applied to interim)"
-unfoldable pub keyChange : Strength → List ℕ → List ℕ → List ℕ
+unfoldable pub keyChange : (s : Strength) (start session : List ℕ) → List ℕ
 keyChange s start session = let interim : List ℕ = newKey s start session in reduced s (rc4 interim interim)
 
 -- n key changes; "the start key never changes"
-unfoldable pub changes : Strength → List ℕ → ℕ → List ℕ → List ℕ
+unfoldable pub changes : (s : Strength) (start : List ℕ) (zero : ℕ) (session : List ℕ) → List ℕ
 changes s start zero session = session
 changes s start (suc n) session = keyChange s start (changes s start n session)
 

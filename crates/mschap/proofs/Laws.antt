@@ -89,11 +89,11 @@ compared a b d i e ha hb = difference d (getD a i 0) (getD b i 0) ∙ rw (e, add
 pub compared-all : (a b : List ℕ) (d i n : ℕ) → eqb d 0 ≡ equal (take i a) (take i b) → i ≡ n → eqb d 0 ≡ equal (take n a) (take n b)
 compared-all a b d i n e ei = rw (← ei) e
 
-pub joined : {t₁ t₂ t₃ : List ℕ} (a b c t : List ℕ) → t₁ ≡ writtenAt 0 (take (length t - 0) a) t
+pub three-copied : {t₁ t₂ t₃ : List ℕ} (a b c t : List ℕ) → t₁ ≡ writtenAt 0 (take (length t - 0) a) t
     → t₂ ≡ writtenAt (length a) (take (length t₁ - length a) b) t₁
     → t₃ ≡ writtenAt (length a + length b) (take (length t₂ - (length a + length b)) c) t₂
     → length a + length b + length c ≤ length t → t₃ ≡ written (a ++ b ++ c) t
-joined a b c t e₁ e₂ e₃ h =
+three-copied a b c t e₁ e₂ e₃ h =
     let g₁ = grown [] t a 0 refl e₁ refl (omega arith) in
     let r₁ : length (drop (length a) t) ≡ length t - length a = length-drop (length a) t in
     let g₂ = grown a (drop (length a) t) b (length a) g₁ e₂ refl (omega arith) in

@@ -48,15 +48,15 @@ abbrev pub wordLE : List ℕ → ℕ → ℕ
 wordLE b i = fromBigEndian (getD b (i + 3) 0 ∷ getD b (i + 2) 0 ∷ getD b (i + 1) 0 ∷ getD b i 0 ∷ [])
 
 -- a lent buffer with a result in front, and the rest as it was
-abbrev pub written : List ℕ → List ℕ → List ℕ
+abbrev pub written : (result buffer : List ℕ) → List ℕ
 written result buffer = result ++ drop (length result) buffer
 
 -- a lent buffer with a result from a place on, and the rest as it was
-abbrev pub writtenAt : ℕ → List ℕ → List ℕ → List ℕ
+abbrev pub writtenAt : (at : ℕ) (result buffer : List ℕ) → List ℕ
 writtenAt at result buffer = take at buffer ++ written result (drop at buffer)
 
 -- the first where the result has room, and otherwise the buffer as it was
-abbrev pub writtenIfRoom : List ℕ → List ℕ → List ℕ
+abbrev pub writtenIfRoom : (result buffer : List ℕ) → List ℕ
 writtenIfRoom result buffer = pick (leb (length result) (length buffer)) (written result buffer) buffer
 
 -- the longest text of a digest, an HMAC or RC4, and the longest key of an HMAC (01, "Lengths")

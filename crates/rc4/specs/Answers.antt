@@ -31,13 +31,13 @@ abbrev pub drawAnswer : Rc4 → Drawn
 drawAnswer s = record { octet = drawn s; state = step s }
 
 -- the number for a text and a lent buffer
-abbrev pub runCode : List ℕ → List ℕ → ℕ
+abbrev pub runCode : (text out : List ℕ) → ℕ
 runCode text out = firstOf ((size, ltb longestText (length text)) ∷ (room, ltb (length out) (length text)) ∷ [])
 
 -- a refused text hands back the state given ..
-unfoldable pub runAnswer : Rc4 → List ℕ → List ℕ → Ran
+unfoldable pub runAnswer : (s : Rc4) (text out : List ℕ) → Ran
 runAnswer s text out = record { answer = runCode text out; state = onDone (runCode text out) (after s text) s }
 
 -- .. and leaves the lent buffer as it was
-unfoldable pub runOut : Rc4 → List ℕ → List ℕ → List ℕ
+unfoldable pub runOut : (s : Rc4) (text out : List ℕ) → List ℕ
 runOut s text out = onDone (runCode text out) (written (run s text) out) out

@@ -27,13 +27,13 @@ abbrev pub opad : ℕ
 opad = 0x5C
 
 -- H(K XOR opad, H(K XOR ipad, text))
-unfoldable pub hmac : List ℕ → List ℕ → List ℕ
+unfoldable pub hmac : (key text : List ℕ) → List ℕ
 hmac key text = sha256 (xored opad (keyBlock key) ++ sha256 (xored ipad (keyBlock key) ++ text))
 
 -- the number that the call answers
-abbrev pub hmacCode : List ℕ → List ℕ → ℕ
+abbrev pub hmacCode : (key text : List ℕ) → ℕ
 hmacCode key text = firstOf ((size, ltb longestText (length key)) ∷ (size, ltb longestText (length text)) ∷ [])
 
 -- the answer to a key and a text of any lengths; a refused one has zeros
-unfoldable pub hmacAnswer : List ℕ → List ℕ → Digest
+unfoldable pub hmacAnswer : (key text : List ℕ) → Digest
 hmacAnswer key text = record { answer = hmacCode key text; octets = onDone (hmacCode key text) (hmac key text) (replicate 32 0) }

@@ -1,5 +1,4 @@
 -- The binding key of SSTP (MS-SSTP, section 3.2.5.2.4), as 01, "Binding key", condenses it.
-use mathlib.Core.Path.{_≡_, refl}
 use mathlib.Core.List.{List, [], _∷_, _++_}
 use Prim.Native.Nat.{ℕ, _-_}
 use lib.Dec.{ltb}
@@ -13,7 +12,7 @@ use Rattle.mppe_keys.specs.declared.Role.the-variants.{Client, Server}
 use Rattle.sstp.specs.declared.Key.{Key}
 
 -- step 1, HLAK: "client's send start key then receive start key"; "the server puts receive first"
-abbrev pub baseKey : Role → List ℕ → List ℕ → List ℕ
+abbrev pub baseKey : (Client : Role) (send receive : List ℕ) → List ℕ
 baseKey Client send receive = send ++ receive
 baseKey Server send receive = receive ++ send
 
@@ -31,10 +30,6 @@ seed =
 abbrev pub lengthOctets : List ℕ
 lengthOctets = octetsOf LowestFirst 2 32
 
--- K14: "length 32 is written 20 00"
-pub k14 : lengthOctets ≡ 0x20 ∷ 0x00 ∷ []
-k14 = refl
-
 -- step 3, T1, whose 32 octets are the whole key: HMAC-SHA256 (K, S | LEN | 0x01)
 unfoldable pub bindingKey : List ℕ → List ℕ
 bindingKey material = hmac (fitted material) (seed ++ lengthOctets ++ 0x01 ∷ [])
@@ -44,7 +39,7 @@ unfoldable pub keyAnswer : ℕ → List ℕ → Key
 keyAnswer code key = record { answer = code; octets = onDone code key (replicate 32 0) }
 
 -- start keys have 16 octets
-unfoldable pub baseKeyAnswer : Role → List ℕ → List ℕ → Key
+unfoldable pub baseKeyAnswer : (role : Role) (send receive : List ℕ) → Key
 baseKeyAnswer role send receive = keyAnswer (twoCode 16 send 16 receive) (baseKey role send receive)
 
 -- key material has 0 to 65,535

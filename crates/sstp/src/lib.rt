@@ -27,11 +27,11 @@ pub fn base_key(role: Role, send: &[u8], receive: &[u8]) -> Key
     match role {
         Role::Client => Key {
             answer: answer::DONE,
-            octets: joined(send, receive),
+            octets: both_keys(send, receive),
         },
         Role::Server => Key {
             answer: answer::DONE,
-            octets: joined(receive, send),
+            octets: both_keys(receive, send),
         },
     }
 }
@@ -64,7 +64,7 @@ fn refused() -> Key
 }
 
 // Two start keys, one behind the other.
-fn joined(first: &[u8], second: &[u8]) -> [u8; 32]
+fn both_keys(first: &[u8], second: &[u8]) -> [u8; 32]
     requires { ⌜ (length (now first) ≡ 16) × (length (now second) ≡ 16) ⌝ }
     ensures { λ r. ⌜ r ≡ now (first .entry) ++ now (second .entry) ⌝ }
 {

@@ -1,5 +1,5 @@
 use borrow.Author.Needs.{needs}
-use Rattle.mschap.proofs.Laws.{joined}
+use Rattle.mschap.proofs.Laws.{three-copied}
 use Rattle.mschap.proofs.join.Statement.{statement}
 use Rattle.mschap.proofs.join.Tie as tie
 
@@ -27,7 +27,7 @@ returns c =
     let first = behind-first .before .before in
     let lent = first .before .before .before in
     let s = lent .before .before .before in
-    joined (s .args .a .now) (s .args .b .now) (s .args .c .now) (s .args .out .now) (first .copy-at .ensures) (second .copy-at2 .ensures)
+    three-copied (s .args .a .now) (s .args .b .now) (s .args .c .now) (s .args .out .now) (first .copy-at .ensures) (second .copy-at2 .ensures)
     (third .copy-at3 .ensures) (s .pre)
 
 pub join-spec : {M : Type 1} → statement M

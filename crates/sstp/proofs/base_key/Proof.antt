@@ -19,20 +19,20 @@ returns-2 c = c .refused2 .ensures ∙ receive-wrong _ _ _ (c .before .before .i
 enum-told : tie.Need-enum-told
 enum-told c = search needs
 
-joined-requires : tie.Need-joined-requires
-joined-requires c κs = search needs
+both-keys-requires : tie.Need-both-keys-requires
+both-keys-requires c κs = search needs
 
 enum-told-2 : tie.Need-enum-told-2
 enum-told-2 c = search needs
 
-joined-requires-2 : tie.Need-joined-requires-2
-joined-requires-2 c κs = search needs
+both-keys-requires-2 : tie.Need-both-keys-requires-2
+both-keys-requires-2 c κs = search needs
 
 returns-3 : tie.Need-returns-3
-returns-3 c = base-done _ _ _ (c .before .enum-told .given .1) (c .before .before .before .before .if1 .left) (c .before .before .before .if2 .left) (c .joined .ensures)
+returns-3 c = base-done _ _ _ (c .before .enum-told .given .1) (c .before .before .before .before .if1 .left) (c .before .before .before .if2 .left) (c .both-keys .ensures)
 
 returns-4 : tie.Need-returns-4
-returns-4 c = base-done _ _ _ (c .before .enum-told2 .given .1) (c .before .before .before .before .if1 .left) (c .before .before .before .if2 .left) (c .joined2 .ensures)
+returns-4 c = base-done _ _ _ (c .before .enum-told2 .given .1) (c .before .before .before .before .if1 .left) (c .before .before .before .if2 .left) (c .both-keys2 .ensures)
 
 pub base-key-spec : {M : Type 1} → statement M
 base-key-spec =
@@ -43,8 +43,8 @@ base-key-spec =
     refused-requires-2
     returns-2
     enum-told
-    joined-requires
+    both-keys-requires
     enum-told-2
-    joined-requires-2
+    both-keys-requires-2
     returns-3
     returns-4)

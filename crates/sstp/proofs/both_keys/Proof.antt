@@ -1,8 +1,8 @@
 use denote.Ref.{now}
 use borrow.Author.Needs.{needs}
 use Rattle.sstp.proofs.Laws.{pair-laid}
-use Rattle.sstp.proofs.joined.Statement.{statement}
-use Rattle.sstp.proofs.joined.Tie as tie
+use Rattle.sstp.proofs.both_keys.Statement.{statement}
+use Rattle.sstp.proofs.both_keys.Tie as tie
 
 slice-aggregate-copy : tie.Need-slice-aggregate-copy
 slice-aggregate-copy c = search needs
@@ -19,7 +19,7 @@ copy-at-requires c κs = search needs
 returns : tie.Need-returns
 returns c = let s = c .before .before .before .before .before .before .before .before in pair-laid (now (s .args .first)) (now (s .args .second)) (c .before .before .before .before .copy .ensures) (c .before .copy-at .ensures) (s .pre .0) (s .pre .1)
 
-pub joined-spec : {M : Type 1} → statement M
-joined-spec =
+pub both-keys-spec : {M : Type 1} → statement M
+both-keys-spec =
     tie.close
     (tie.spec slice-aggregate-copy copy-requires slice-aggregate-copy-at copy-at-requires returns)
