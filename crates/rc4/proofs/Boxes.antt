@@ -8,7 +8,7 @@ use native.Mathlib.Omega.{arith}
 use lib.ListN.{length, getD, set, take, replicate, length-set}
 use lib.Seq.{take-suc, take-suc-set, take-all}
 use Rattle.rc4.specs.Cipher.{swap}
-use Rattle.rc4.specs.InPlace.{OctetCells}
+use Rattle.rc4.specs.Inner.{OctetCells}
 
 -- an octet stored leaves every cell an octet ..
 set-octets : (c : List ℕ) (a v : ℕ) → v < 256 → ((k : ℕ) → getD c k 0 < 256) → (k : ℕ) → getD (set c a v) k 0 < 256

@@ -9,7 +9,7 @@ use lib.Seq.{getD-set-same}
 use Rattle.rc4.specs.Cipher.{box, swap, nextI, nextJ, step, drawn}
 use Rattle.rc4.specs.declared.Rc4.{Rc4}
 use Rattle.rc4.specs.declared.Drawn.{Drawn}
-use Rattle.rc4.specs.InPlace.{wrapped, OctetCells}
+use Rattle.rc4.specs.Inner.{wrapped, OctetCells}
 use Rattle.rc4.specs.Answers.{drawAnswer}
 use Rattle.rc4.proofs.Boxes.{swap-octets}
 

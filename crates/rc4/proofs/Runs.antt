@@ -11,7 +11,7 @@ use lib.Seq.{drop-cons, take-suc-set, set-split, drop-drop, take-all, length-tak
 use Rattle.octets.specs.Octets.{written}
 use Rattle.rc4.specs.declared.Rc4.{Rc4}
 use Rattle.rc4.specs.Cipher.{step, drawn, run, after}
-use Rattle.rc4.specs.InPlace.{wrapped, xors, OctetCells, Finished}
+use Rattle.rc4.specs.Inner.{wrapped, xors, OctetCells, Finished}
 use Rattle.rc4.specs.Laws.{run-length, run-cut, after-cut}
 use Rattle.rc4.proofs.Draws.{step-octets}
 

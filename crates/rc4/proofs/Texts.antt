@@ -11,7 +11,7 @@ use Rattle.octets.specs.Octets.{written, longestText}
 use Rattle.rc4.specs.declared.Rc4.{Rc4}
 use Rattle.rc4.specs.declared.Ran.{Ran}
 use Rattle.rc4.specs.Cipher.{box, run, after}
-use Rattle.rc4.specs.InPlace.{wrapped}
+use Rattle.rc4.specs.Inner.{wrapped}
 use Rattle.rc4.specs.Answers.{runCode, runAnswer, runOut}
 use Rattle.rc4.specs.Laws.{run-length, run-cut, after-cut}
 use Rattle.rc4.proofs.Draws.{unwrapped}

@@ -5,4 +5,4 @@ pub mod Answers
 -- Laws, which follow from these.
 pub mod Laws
 -- What the contracts of private functions alone say: nothing of a public call rests on reading it.
-pub mod InPlace
+pub mod Inner

@@ -5,7 +5,7 @@ ghost use lib.ListN.{length, getD, replicate};
 ghost use Rattle.octets.specs.Octets.{written, longestText};
 ghost use Rattle.rc4.specs.Cipher.{below, swap, rounds, step, drawn, run, after};
 ghost use Rattle.rc4.specs.Answers.{keyedAnswer, drawAnswer, runAnswer, runOut};
-ghost use Rattle.rc4.specs.InPlace.{wrapped, xors, OctetCells, Ready, Finished};
+ghost use Rattle.rc4.specs.Inner.{wrapped, xors, OctetCells, Ready, Finished};
 
 // The shortest key (01, "Lengths").
 pub const SHORTEST_KEY: usize = 1;

@@ -4,7 +4,7 @@ use Prim.Native.Nat.{_+_, _*_, _-_, _≤_}
 use native.Mathlib.Omega.{arith}
 use borrow.Author.Needs.{needs}
 use lib.ListN.{replicate}
-use Rattle.rc4.specs.InPlace.{wrapped}
+use Rattle.rc4.specs.Inner.{wrapped}
 use Rattle.rc4.proofs.Runs.{Running, begun, more, onward, from-zero, filled, after-all}
 use Rattle.rc4.proofs.draw_eight.Statement.{statement}
 use Rattle.rc4.proofs.draw_eight.Tie as tie

@@ -4,7 +4,7 @@ use Prim.Native.Nat.{_+_, _*_, _/_, _%_, _-_, _^_, _≤_, _<_}
 use native.Mathlib.Omega.{arith}
 use lib.ListN.{length}
 use borrow.Author.Needs.{needs}
-use Rattle.rc4.specs.InPlace.{wrapped}
+use Rattle.rc4.specs.Inner.{wrapped}
 use Rattle.rc4.proofs.Runs.{Running, begun, more-eight, finished}
 use Rattle.rc4.proofs.run_eights.Statement.{statement}
 use Rattle.rc4.proofs.run_eights.Tie as tie

@@ -5,7 +5,7 @@ use native.Mathlib.Omega.{arith}
 use borrow.Author.Needs.{needs}
 use lib.Bits.{bitXor}
 use lib.ListN.{length, getD}
-use Rattle.rc4.specs.InPlace.{wrapped}
+use Rattle.rc4.specs.Inner.{wrapped}
 use Rattle.rc4.proofs.Runs.{Running, begun, more, onward, finished}
 use Rattle.rc4.proofs.run_ones.Statement.{statement}
 use Rattle.rc4.proofs.run_ones.Tie as tie

@@ -5,7 +5,7 @@ use Prim.Native.Nat.{_-_, _≤_}
 use native.Mathlib.Omega.{arith}
 use borrow.Author.Needs.{needs}
 use lib.ListN.{length, take, drop, length-set}
-use Rattle.rc4.specs.InPlace.{xors}
+use Rattle.rc4.specs.Inner.{xors}
 use Rattle.rc4.proofs.Runs.{xors-more, xors-all}
 use Rattle.rc4.proofs.xor_eight.Statement.{statement}
 use Rattle.rc4.proofs.xor_eight.Tie as tie
