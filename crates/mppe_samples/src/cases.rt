@@ -4,7 +4,7 @@ use crate::LENT;
 use crate::Trial;
 use crate::fresh;
 use crate::headed;
-use crate::link_octets;
+use mppe_record::record_octets;
 use crate::new_link;
 use crate::open_within;
 use crate::seal_within;
@@ -81,7 +81,7 @@ fn show_new(link: Link, n: usize) {
     let strength = link.strength;
     let made = new_link(strength, n);
     let begun = made.link;
-    report::numbered(b"link", n, made.answer, &link_octets(begun));
+    report::numbered(b"link", n, made.answer, &record_octets(begun));
 }
 
 // A plain packet sealed, and the first packet of a link opened, both with one record and as one trial says.
@@ -146,7 +146,7 @@ fn show(label: &[u8], n: usize, made: Outcome, out: &[u8]) {
         b"link",
         made.changes as usize,
         made.answer,
-        &link_octets(link),
+        &record_octets(link),
     );
 }
 

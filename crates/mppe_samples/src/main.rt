@@ -85,35 +85,8 @@ fn struck(octets: [u8; LENT], mask: [u8; 6]) -> [u8; LENT] {
 
 // Prints the bits of a strength.
 fn headed(strength: Strength) {
-    io::print_decimal(STDOUT_FILENO, index(bits(strength)) as u64);
+    io::print_decimal(STDOUT_FILENO, index(mppe_record::bits_of(strength)) as u64);
     io::write_all(STDOUT_FILENO, b" bits\n");
-}
-
-// The bits of a strength.
-fn bits(strength: Strength) -> u8 {
-    match strength {
-        Strength::Bits40 => 40,
-        Strength::Bits56 => 56,
-        Strength::Bits128 => 128,
-    }
-}
-
-// A link record as octets: the strength's bits, both keys, and the count with its high octet in front.
-fn link_octets(link: Link) -> [u8; 35] {
-    let strength = link.strength;
-    let start = link.start;
-    let session = link.session;
-    let mut out = [0u8; 35];
-    out[0] = bits(strength);
-    octets::copy_at(&start, 1, &mut out);
-    octets::copy_at(&session, 17, &mut out);
-    octets::copy_at(&two_octets(link.count as usize), 33, &mut out);
-    out
-}
-
-// A number below 65,536 as two octets, the high one in front.
-fn two_octets(n: usize) -> [u8; 2] {
-    [(n / 256 % 256) as u8, (n % 256) as u8]
 }
 
 // An octet as a number.
