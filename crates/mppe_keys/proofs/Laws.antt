@@ -105,10 +105,10 @@ fixed-head Bits40 e = rw e
 fixed-head Bits56 e = rw e
 fixed-head Bits128 e = rw e
 
-pub head-put : {key′ : List ℕ} {n : ℕ} (s : Strength) (key : List ℕ) → n ≡ length (headOf s) → key′ ≡ written (take (length key) (take n fixed)) key
+pub head-put : {key′ : List ℕ} (s : Strength) (n : ℕ) (f key : List ℕ) → take n f ≡ headOf s → key′ ≡ written (take (length key) (take n f)) key
     → 3 ≤ length key → key′ ≡ reduced s key
 unfolding reduced
-head-put s key en e h = rw (e, fixed-head s en, take-all (length key) (headOf s) (omega (arith, head-most s)))
+head-put s n f key ef e h = rw (e, ef, take-all (length key) (headOf s) (omega (arith, head-most s)))
 
 -- the places of a key looked at one after the other: those before i are as they are fixed
 abbrev pub BeginsTo : ℕ → List ℕ → List ℕ → ℕ → Type 0
@@ -124,17 +124,16 @@ pub begins-more : (n : ℕ) (h key : List ℕ) (i : ℕ) → BeginsTo n h key i 
     → BeginsTo n h key (i + 1)
 begins-more n h key i e hi hn hk same = rw (add-one i) (e ∙ step n h key i hi hn hk ∙ rw (eq-eqb (getD key i 0) (getD h i 0) same))
 
-pub begins-other : (s : Strength) (n : ℕ) (key : List ℕ) (i : ℕ) → n ≡ length (headOf s) → BeginsTo n fixed key i → i < n → n ≤ 3 → i < length key
-    → (getD key i 0 ≡ getD fixed i 0 → ⊥) → false ≡ begins (headOf s) key
-begins-other s n key i en e hi hn hk other =
-    sym (rw (← fixed-head s en) (e ∙ step n fixed key i hi hn hk ∙ rw (ne-eqb (getD key i 0) (getD fixed i 0) other)))
+pub begins-other : (s : Strength) (n : ℕ) (f key : List ℕ) (i : ℕ) → take n f ≡ headOf s → BeginsTo n f key i → i < n → n ≤ length f → i < length key
+    → (getD key i 0 ≡ getD f i 0 → ⊥) → false ≡ begins (headOf s) key
+begins-other s n f key i ef e hi hn hk other = sym (rw (← ef) (e ∙ step n f key i hi hn hk ∙ rw (ne-eqb (getD key i 0) (getD f i 0) other)))
 
-pub begins-all : (s : Strength) (n : ℕ) (key : List ℕ) (i : ℕ) → n ≡ length (headOf s) → BeginsTo n fixed key i → n ≤ i → n ≤ 3
+pub begins-all : (s : Strength) (n : ℕ) (f key : List ℕ) (i : ℕ) → take n f ≡ headOf s → BeginsTo n f key i → n ≤ i → n ≤ length f
     → true ≡ begins (headOf s) key
 unfolding begins
-begins-all s n key i en e hi hn =
-    let none : drop i (take n fixed) ≡ [] = drop-of-length-le (take n fixed) {i = i} (omega (arith, length-take-le n fixed hn)) in
-    sym (rw (← fixed-head s en) (e ∙ rw none))
+begins-all s n f key i ef e hi hn =
+    let none : drop i (take n f) ≡ [] = drop-of-length-le (take n f) {i = i} (omega (arith, length-take-le n f hn)) in
+    sym (rw (← ef) (e ∙ rw none))
 
 -- a key reduced in front of something else
 reduced-front : (s : Strength) (key rest : List ℕ) → length key ≡ keyLength s → reduced s (key ++ rest) ≡ reduced s key ++ rest

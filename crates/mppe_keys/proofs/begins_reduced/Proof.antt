@@ -1,7 +1,7 @@
 use mathlib.Core.Path.{refl}
 use Prim.Native.Nat.{_≤_, _-_}
 use native.Mathlib.Omega.{arith}
-use Rattle.mppe_keys.proofs.Laws.{BeginsTo, begins-more, begins-other, begins-all}
+use Rattle.mppe_keys.proofs.Laws.{fixed-head, BeginsTo, begins-more, begins-other, begins-all}
 use borrow.Author.Needs.{needs}
 use Rattle.mppe_keys.proofs.begins_reduced.Statement.{statement}
 use Rattle.mppe_keys.proofs.begins_reduced.Tie as tie
@@ -26,7 +26,7 @@ array-read-if1-2 c = search needs
 
 returns : tie.Need-returns Inv-loop μ-loop
 returns c = let counted = c .before .before .before in
-    begins-other _ _ _ _ (counted .fixed-octets .ensures .0) (c .before .before .loop .inv .1) (omega arith) (counted .fixed-octets .ensures .1) (omega arith) (c .if1 .taken)
+    begins-other _ _ _ _ _ (fixed-head _ (counted .fixed-octets .ensures .0)) (c .before .before .loop .inv .1) (omega arith) (counted .fixed-octets .ensures .1) (omega arith) (c .if1 .taken)
 
 add-i : tie.Need-add-i Inv-loop μ-loop
 add-i c = search needs
@@ -40,7 +40,7 @@ loop-again c = let counted = c .before .before .before in
 
 returns-2 : tie.Need-returns-2 Inv-loop μ-loop
 returns-2 c = let counted = c .before .before in
-    begins-all _ _ _ (c .before .loop .i) (counted .fixed-octets .ensures .0) (c .before .loop .inv .1) (omega arith) (counted .fixed-octets .ensures .1)
+    begins-all _ _ _ _ (c .before .loop .i) (fixed-head _ (counted .fixed-octets .ensures .0)) (c .before .loop .inv .1) (omega arith) (counted .fixed-octets .ensures .1)
 
 pub begins-reduced-spec : {M : Type 1} → statement M
 begins-reduced-spec =

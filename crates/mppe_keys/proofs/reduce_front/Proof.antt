@@ -1,5 +1,4 @@
-use native.Mathlib.Omega.{arith}
-use Rattle.mppe_keys.proofs.Laws.{fixed, count, head-put}
+use Rattle.mppe_keys.proofs.Laws.{fixed, fixed-head, count, head-put}
 use borrow.Author.Needs.{needs}
 use Rattle.mppe_keys.proofs.reduce_front.Statement.{statement}
 use Rattle.mppe_keys.proofs.reduce_front.Tie as tie
@@ -11,8 +10,7 @@ array-share-prefix-copy : tie.Need-array-share-prefix-copy
 array-share-prefix-copy c = search needs
 
 slice-aggregate-copy : tie.Need-slice-aggregate-copy
-slice-aggregate-copy c = let n = c .before .fixed-octets in
-    count (n .result) fixed (omega (arith, n .ensures .1))
+slice-aggregate-copy c = count _ _ (c .before .fixed-octets .ensures .1)
 
 copy-requires : tie.Need-copy-requires
 copy-requires c κs = search needs
@@ -23,7 +21,7 @@ same-length c = search needs
 returns : tie.Need-returns
 returns c = let copied = c .before .before in
     let counted = copied .before .before .before in
-    head-put _ _ (counted .fixed-octets .ensures .0) (copied .copy .ensures) (counted .before .before .pre)
+    head-put _ (counted .fixed-octets .result) fixed _ (fixed-head _ (counted .fixed-octets .ensures .0)) (copied .copy .ensures) (counted .before .before .pre)
 
 pub reduce-front-spec : {M : Type 1} → statement M
 reduce-front-spec =
