@@ -26,16 +26,10 @@ test:
 fuzz:
 	@tests/compare/run time $(SECONDS)
 
-# Beside plain C as gcc builds it, and without gcc's vectoriser, which halves the speed of plain SHA-1.
 bench:
 	@tools/needs rt gcc openssl
 	@tools/prove library bench
-	@mkdir -p target/bin
-	@for flags in "-O2" "-O3 -fno-tree-vectorize"; do \
-	    gcc $$flags -Wall -Wextra -Werror -o target/bin/bench bench/bench.c bench/plain.c target/staticlib/libbench.a -lcrypto || exit 1; \
-	    printf '\nPlain C with gcc %s\n\n' "$$flags"; \
-	    target/bin/bench || exit 1; \
-	done
+	@bench/run
 
 stack: archive
 	@tools/stack target/lib/libudukemb.a include/udukemb.h

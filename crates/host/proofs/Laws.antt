@@ -1,7 +1,7 @@
 -- The ways out of the calls.
 use mathlib.Core.Path.{_≡_, refl, sym, ap, _∙_}
 use mathlib.Core.Bool.{Bool, true, false, not}
-use mathlib.Core.List.{List, [], append-nil}
+use mathlib.Core.List.{List, [], _∷_, append-nil}
 use Prim.Native.Nat.{ℕ, zero, suc, _-_, _%_, _≤_, _<_}
 use native.Mathlib.Nat.{suc-ne-zero}
 use native.Mathlib.Omega.{arith}
@@ -116,9 +116,9 @@ start-from : {master key : Key} (code : ℕ) (s : Strength) (role : Role) (direc
     → master .answer ≡ done → key ≡ startKeyAnswer s role direction (master .octets) → length m ≡ 16
     → key ≡ keyAnswer code (startKey s role direction m)
 unfolding keyAnswer startKeyAnswer oneCode
-start-from code s role direction m e h ek hm =
+start-from {master} code s role direction m e h ek hm =
     let zero : code ≡ done = sym (ap (λ a. a .answer) e) ∙ h in
-    let octets = ap (λ a. a .octets) e ∙ rw (zero, placed-whole m hm) in
+    let octets : master .octets ≡ m = ap (λ a. a .octets) e ∙ rw (zero, placed-whole m hm) in
     ek ∙ rw (octets, zero, right 16 m hm)
 
 pub start-made : {master key : Key} (s : Strength) (role : Role) (direction : Direction) (password response : List ℕ)

@@ -4,7 +4,6 @@ use crate::LENT;
 use crate::Trial;
 use crate::fresh;
 use crate::headed;
-use mppe_record::record_octets;
 use crate::new_link;
 use crate::open_within;
 use crate::seal_within;
@@ -12,6 +11,7 @@ use crate::struck;
 use mppe::Link;
 use mppe::Outcome;
 use mppe_keys::Strength;
+use mppe_record::record_octets;
 
 // What a case of a number is about.
 enum Kind {
