@@ -179,10 +179,6 @@ replaced {text} front old tail new at et ey hf hn =
     rw
     (ey, size, before, part, take-all (length (old ++ tail)) (old ++ tail) (omega arith), drop-length (old ++ tail), hn, drop-append-seam old tail, append-nil)
 
--- the front of a list is as long as asked
-pub count : (n : ℕ) (l : List ℕ) → n ≤ length l → n ≡ length (take n l)
-count n l h = sym (length-take-le n l h)
-
 -- .. and short enough to be hashed
 pub front-short : (n : ℕ) (l : List ℕ) → n ≤ length l → n ≤ longestText → length (take n l) ≤ longestText
 front-short n l h h′ = omega (arith, length-take-le n l h)

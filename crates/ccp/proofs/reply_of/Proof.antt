@@ -20,7 +20,12 @@ none-of-requires : tie.Need-none-of-requires
 none-of-requires c κs = search needs
 
 returns-2 : tie.Need-returns-2
-returns-2 c = reply-none _ _ (c .before .before .before .before .before .before .supported-bits .ensures) (c .before .before .before .before .if1 .left) (c .before .before .before .strengths-of .ensures) (c .before .before .common .ensures) (c .before .none-of .ensures) (c .if2 .taken)
+returns-2 c = let none = c .before in
+    let usable = none .before in
+    let offers = usable .before in
+    let shaped = offers .before in
+    reply-none _ _ (shaped .before .before .supported-bits .ensures) (shaped .if1 .left) (offers .strengths-of .ensures) (usable .common .ensures)
+    (none .none-of .ensures) (c .if2 .taken)
 
 strongest-requires : tie.Need-strongest-requires
 strongest-requires c κs = search needs
@@ -29,10 +34,26 @@ choice-word-requires : tie.Need-choice-word-requires
 choice-word-requires c κs = search needs
 
 returns-3 : tie.Need-returns-3
-returns-3 c = reply-choice _ _ (c .before .before .before .before .before .before .before .before .before .before .supported-bits .ensures) (c .before .before .before .before .before .before .before .before .if1 .left) (c .before .before .before .before .before .before .before .strengths-of .ensures) (c .before .before .before .before .before .before .common .ensures) (c .before .before .before .before .before .none-of .ensures) (c .before .before .before .before .if2 .left) (c .before .before .before .strongest .ensures) (c .before .before .choice-word .ensures) (ne-eqb _ _ (c .if3 .taken))
+returns-3 c = let word = c .before .before in
+    let best = word .before in
+    let some = best .before in
+    let none = some .before in
+    let usable = none .before in
+    let offers = usable .before in
+    let shaped = offers .before in
+    reply-choice _ _ (shaped .before .before .supported-bits .ensures) (shaped .if1 .left) (offers .strengths-of .ensures) (usable .common .ensures)
+    (none .none-of .ensures) (some .if2 .left) (best .strongest .ensures) (word .choice-word .ensures) (ne-eqb _ _ (c .if3 .taken))
 
 returns-4 : tie.Need-returns-4
-returns-4 c = reply-choice _ _ (c .before .before .before .before .before .before .before .before .before .before .supported-bits .ensures) (c .before .before .before .before .before .before .before .before .if1 .left) (c .before .before .before .before .before .before .before .strengths-of .ensures) (c .before .before .before .before .before .before .common .ensures) (c .before .before .before .before .before .none-of .ensures) (c .before .before .before .before .if2 .left) (c .before .before .before .strongest .ensures) (c .before .before .choice-word .ensures) (eq-eqb _ _ (c .if3 .left))
+returns-4 c = let word = c .before .before in
+    let best = word .before in
+    let some = best .before in
+    let none = some .before in
+    let usable = none .before in
+    let offers = usable .before in
+    let shaped = offers .before in
+    reply-choice _ _ (shaped .before .before .supported-bits .ensures) (shaped .if1 .left) (offers .strengths-of .ensures) (usable .common .ensures)
+    (none .none-of .ensures) (some .if2 .left) (best .strongest .ensures) (word .choice-word .ensures) (eq-eqb _ _ (c .if3 .left))
 
 pub reply-of-spec : {M : Type 1} → statement M
 reply-of-spec =

@@ -25,7 +25,10 @@ same-length : tie.Need-same-length
 same-length c = search needs
 
 returns-2 : tie.Need-returns-2
-returns-2 c = option-written _ _ _ (c .before .before .before .before .before .before .before .if1 .left) (c .before .before .before .before .before .before .word-of .ensures) (c .before .before .before .before .before .option-octets .ensures) (c .before .before .copy .ensures)
+returns-2 c = let copied = c .before .before in
+    let octets = copied .before .before .before in
+    let word = octets .before in
+    option-written _ _ _ (word .before .if1 .left) (word .word-of .ensures) (octets .option-octets .ensures) (copied .copy .ensures)
 
 pub write-spec : {M : Type 1} → statement M
 write-spec =

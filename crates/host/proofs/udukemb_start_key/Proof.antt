@@ -1,7 +1,7 @@
 use borrow.Author.Needs.{needs}
 use mathlib.Core.Path.{_≡_, sym, _∙_}
 use lib.ListN.{length}
-use Rattle.mppe_keys.proofs.Laws.{count}
+use Rattle.octets.specs.Laws.{count}
 use Rattle.host.specs.Host.{startKeyGiven}
 use Rattle.host.proofs.Laws.{none-first, none-given, key-fits, start-given}
 use Rattle.host.proofs.udukemb_start_key.Statement.{statement}

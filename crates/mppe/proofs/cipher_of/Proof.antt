@@ -3,7 +3,7 @@ use mathlib.Core.Path.{_≡_}
 use native.Mathlib.Omega.{arith}
 use lib.ListN.{length}
 use Rattle.mppe_keys.specs.Laws.{key-most}
-use Rattle.mppe_keys.proofs.Laws.{count}
+use Rattle.octets.specs.Laws.{count}
 use Rattle.mppe.proofs.Laws.{cipher-is}
 use Rattle.mppe.proofs.cipher_of.Statement.{statement}
 use Rattle.mppe.proofs.cipher_of.Tie as tie

@@ -1,4 +1,4 @@
-use Rattle.mppe_keys.proofs.Laws.{count}
+use Rattle.octets.specs.Laws.{count}
 use Rattle.mppe.proofs.Laws.{pair-runs}
 use borrow.Author.Needs.{needs}
 use Rattle.mppe.proofs.runs_off_protocol.Statement.{statement}

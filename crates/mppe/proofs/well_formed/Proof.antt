@@ -13,19 +13,35 @@ zeros-from-requires : tie.Need-zeros-from-requires
 zeros-from-requires c κs = search needs
 
 returns-2 : tie.Need-returns-2
-returns-2 c = well-start (c .before .before .before .before .before .before .args .link) (c .before .before .before .key-length .ensures) (c .before .before .before .before .if1 .left) (fails _ (c .before .zeros-from .ensures) (c .if2 .taken))
+returns-2 c = let start = c .before in
+    let size = start .before .before in
+    let counted = size .before in
+    well-start (counted .before .before .args .link) (size .key-length .ensures) (counted .if1 .left) (fails _ (start .zeros-from .ensures) (c .if2 .taken))
 
 zeros-from-requires-2 : tie.Need-zeros-from-requires-2
 zeros-from-requires-2 c κs = search needs
 
 returns-3 : tie.Need-returns-3
-returns-3 c = well-session (c .before .before .before .before .before .before .before .before .before .args .link) (c .before .before .before .before .before .before .key-length .ensures) (c .before .before .before .before .before .before .before .if1 .left) (holds _ (c .before .before .before .before .zeros-from .ensures) (c .before .before .before .if2 .left)) (fails _ (c .before .zeros-from2 .ensures) (c .if3 .taken))
+returns-3 c = let session = c .before in
+    let started = session .before .before in
+    let start = started .before in
+    let size = start .before .before in
+    let counted = size .before in
+    well-session (counted .before .before .args .link) (size .key-length .ensures) (counted .if1 .left)
+    (holds _ (start .zeros-from .ensures) (started .if2 .left)) (fails _ (session .zeros-from2 .ensures) (c .if3 .taken))
 
 begins-reduced-requires : tie.Need-begins-reduced-requires
 begins-reduced-requires c κs = search needs
 
 returns-4 : tie.Need-returns-4
-returns-4 c = well-last (c .before .before .before .before .before .before .before .before .before .before .args .link) (c .before .before .before .before .before .before .before .key-length .ensures) (c .before .before .before .before .before .before .before .before .if1 .left) (holds _ (c .before .before .before .before .before .zeros-from .ensures) (c .before .before .before .before .if2 .left)) (holds _ (c .before .before .zeros-from2 .ensures) (c .before .if3 .left)) (c .begins-reduced .ensures)
+returns-4 c = let placed = c .before in
+    let session = placed .before in
+    let started = session .before .before in
+    let start = started .before in
+    let size = start .before .before in
+    let counted = size .before in
+    well-last (counted .before .before .args .link) (size .key-length .ensures) (counted .if1 .left) (holds _ (start .zeros-from .ensures) (started .if2 .left))
+    (holds _ (session .zeros-from2 .ensures) (placed .if3 .left)) (c .begins-reduced .ensures)
 
 pub well-formed-spec : {M : Type 1} → statement M
 well-formed-spec =

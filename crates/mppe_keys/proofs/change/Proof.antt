@@ -5,7 +5,8 @@ use lib.Seq.{length-take-le}
 use lib.ListN.{length}
 use borrow.Author.Needs.{needs}
 use Rattle.mppe_keys.specs.Keys.{keyLength}
-use Rattle.mppe_keys.proofs.Laws.{count, front-short, rest-room, changed-once}
+use Rattle.octets.specs.Laws.{count}
+use Rattle.mppe_keys.proofs.Laws.{front-short, rest-room, changed-once}
 use Rattle.mppe_keys.proofs.change.Statement.{statement}
 use Rattle.mppe_keys.proofs.change.Tie as tie
 

@@ -2,7 +2,8 @@ use Prim.Native.Nat.{_+_}
 use native.Mathlib.Omega.{arith}
 use lib.ListN.{length}
 use denote.Ref.{now}
-use Rattle.mppe_keys.proofs.Laws.{count, front-short, text-room, front-hashed}
+use Rattle.octets.specs.Laws.{count}
+use Rattle.mppe_keys.proofs.Laws.{front-short, text-room, front-hashed}
 use borrow.Author.Needs.{needs}
 use Rattle.mppe_keys.proofs.key_digest.Statement.{statement}
 use Rattle.mppe_keys.proofs.key_digest.Tie as tie

@@ -4,7 +4,8 @@ use lib.Seq.{length-take-le}
 use lib.ListN.{length}
 use borrow.Author.Needs.{needs}
 use Rattle.mppe_keys.specs.Answers.{masterKeyAnswer}
-use Rattle.mppe_keys.proofs.Laws.{count, two-wrong, two-wrong-next, two-right, master-done}
+use Rattle.octets.specs.Laws.{count}
+use Rattle.mppe_keys.proofs.Laws.{two-wrong, two-wrong-next, two-right, master-done}
 use Rattle.mppe_keys.proofs.master_key.Statement.{statement}
 use Rattle.mppe_keys.proofs.master_key.Tie as tie
 

@@ -3,7 +3,8 @@ use native.Mathlib.Omega.{arith}
 use lib.ListN.{length}
 use lib.Seq.{length-take-le}
 use Rattle.mppe_keys.specs.Answers.{newKeyAnswer}
-use Rattle.mppe_keys.proofs.Laws.{count, two-wrong, two-wrong-next, two-right, new-done}
+use Rattle.octets.specs.Laws.{count}
+use Rattle.mppe_keys.proofs.Laws.{two-wrong, two-wrong-next, two-right, new-done}
 use borrow.Author.Needs.{needs}
 use Rattle.mppe_keys.proofs.new_key.Statement.{statement}
 use Rattle.mppe_keys.proofs.new_key.Tie as tie

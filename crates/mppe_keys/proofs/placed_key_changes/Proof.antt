@@ -3,7 +3,8 @@ use native.Mathlib.Omega.{arith}
 use lib.Seq.{length-take-le}
 use lib.ListN.{length}
 use borrow.Author.Needs.{needs}
-use Rattle.mppe_keys.proofs.Laws.{count, places-changed}
+use Rattle.octets.specs.Laws.{count}
+use Rattle.mppe_keys.proofs.Laws.{places-changed}
 use Rattle.mppe_keys.proofs.placed_key_changes.Statement.{statement}
 use Rattle.mppe_keys.proofs.placed_key_changes.Tie as tie
 

@@ -1,4 +1,5 @@
-use Rattle.mppe_keys.proofs.Laws.{fixed, fixed-head, count, head-put}
+use Rattle.octets.specs.Laws.{count}
+use Rattle.mppe_keys.proofs.Laws.{fixed, fixed-head, head-put}
 use borrow.Author.Needs.{needs}
 use Rattle.mppe_keys.proofs.reduce_front.Statement.{statement}
 use Rattle.mppe_keys.proofs.reduce_front.Tie as tie

@@ -16,7 +16,9 @@ copy-requires : tie.Need-copy-requires
 copy-requires c κs = search needs
 
 returns-2 : tie.Need-returns-2
-returns-2 c = new-done _ _ (c .before .before .before .before .before .before .initial-session-key .ensures) (c .before .before .before .before .if1 .left) (c .before .copy .ensures)
+returns-2 c = let copied = c .before in
+    let given = copied .before .before .before in
+    new-done _ _ (given .before .before .initial-session-key .ensures) (given .if1 .left) (copied .copy .ensures)
 
 pub new-spec : {M : Type 1} → statement M
 new-spec =
