@@ -49,10 +49,6 @@ module _ {S : Type 0} (compress : S → List ℕ → S) where
   unfoldable pub hashed : Order → S → List ℕ → S
   hashed order s m = absorbed s (m ++ padding order (length m))
 
-  -- the hash value of a message that goes on behind `prior` octets, whole blocks that gave s: for code that keeps no message whole
-  unfoldable pub closed : Order → S → ℕ → List ℕ → S
-  closed order s prior m = absorbed s (m ++ padding order (prior + length m))
-
 -- the octets behind a message's last whole block, padded
 abbrev pub ending : Order → List ℕ → ℕ → List ℕ
 ending order m bits = drop (64 * (length m / 64)) m ++ padded order (length m) bits

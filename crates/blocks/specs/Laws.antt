@@ -12,7 +12,8 @@ use Rattle.octets.specs.Octets.{wordBE}
 use Rattle.octets.specs.Words.{_⊞_}
 use Rattle.octets.specs.declared.Order.{Order}
 use Rattle.blocks.specs.declared.Tail.{Tail}
-use Rattle.blocks.specs.Blocks.{schedule, nextWord, rounds, tailOf, block, padding, padded, ending, after, absorbed, hashed, closed}
+use Rattle.blocks.specs.Blocks.{schedule, nextWord, rounds, tailOf, block, padding, padded, ending, after, absorbed, hashed}
+use Rattle.blocks.specs.Inner.{closed}
 
 -- two words are added in either order
 pub add-swap : (a x y : ℕ) → a ⊞ x ⊞ y ≡ a ⊞ y ⊞ x

@@ -69,10 +69,10 @@ repliedWord option allowed = onDone (replyCode option allowed) (choiceWord (chos
 abbrev pub replyCodeOf : Reply → ℕ
 replyCodeOf (Accept choice) = done
 replyCodeOf (CounterOffer choice) = done
-replyCodeOf (Refused number) = number
+replyCodeOf (Refused code) = code
 
 -- .. and its supported bits
 abbrev pub replyWord : Reply → ℕ
 replyWord (Accept choice) = choiceWord choice
 replyWord (CounterOffer choice) = choiceWord choice
-replyWord (Refused number) = 0
+replyWord (Refused code) = 0

@@ -43,11 +43,11 @@ use Rattle.host.specs.Host.{Given, Linked, given, roleOf, directionOf, s
 
 -- a call's number and the lent buffer after it are those of a definition ..
 abbrev pub Gave : ℕ → List ℕ → Given → Type 0
-Gave number buffer g = (number ≡ g .number) × (buffer ≡ g .buffer)
+Gave number buffer g = (number ≡ g .code) × (buffer ≡ g .buffer)
 
 -- .. and so those of an equal one
 told : {g g′ : Given} {r : ℕ} {out′ : List ℕ} → g ≡ g′ → Gave r out′ g → Gave r out′ g′
-told e w = (w .0 ∙ ap (λ g. g .number) e, w .1 ∙ ap (λ g. g .buffer) e)
+told e w = (w .0 ∙ ap (λ g. g .code) e, w .1 ∙ ap (λ g. g .buffer) e)
 
 -- a result given over: it came with a refusal, it has no room, it has
 pub given-refused : (code : ℕ) (result out : List ℕ) → (code ≡ done → ⊥) → Gave code out (given code result out)
@@ -181,14 +181,14 @@ choice-replied accept c e h eb = rw (← e, h, eb)
 
 pub replied : {rep rep′ : CcpReply} {r : Reply} {out′ : List ℕ} (option : List ℕ) (allowed : Strengths) (out : List ℕ)
     → rep ≡ replyAnswer option allowed → rep ≡ rep′
-    → (r ≡ replyOf rep′ (given (replyCodeOf rep′) (replyOctets rep′) out .number))
+    → (r ≡ replyOf rep′ (given (replyCodeOf rep′) (replyOctets rep′) out .code))
     × (out′ ≡ given (replyCodeOf rep′) (replyOctets rep′) out .buffer)
     → (r ≡ optionReply option allowed out) × (out′ ≡ optionGiven option allowed out .buffer)
 unfolding optionReply optionGiven
 replied option allowed out e e′ w = rw (sym e ∙ e′) w
 
 pub reply-refused : {r : Reply} (number : ℕ) (out : List ℕ) → r ≡ record { answer = number; accept = false; bits = 0 }
-    → (r ≡ replyOf (Refused number) (given number [] out .number)) × (out ≡ given number [] out .buffer)
+    → (r ≡ replyOf (Refused number) (given number [] out .code)) × (out ≡ given number [] out .buffer)
 unfolding given
 reply-refused zero out e = rw (le-ltb (length out) 0 (omega arith)) (e, refl)
 reply-refused (suc n) out e = (e, refl)
@@ -216,15 +216,15 @@ linked-none {read} call octets out e h = rw (← e) (go (read .answer) h)
 pub linked-made : {read : RecordRead} {made : Outcome} {octets′ out′ : List ℕ} (call : Link → Result) (octets out : List ℕ)
     → read ≡ recordRead octets → read .answer ≡ done → (made ≡ call (read .link) .outcome) × (out′ ≡ call (read .link) .buffer)
     → octets′ ≡ recordOctets (made .link)
-    → _≡_ {A = Linked} (record { number = made .answer; changed = made .changes; octets = octets′; buffer = out′ }) (linked call octets out)
+    → _≡_ {A = Linked} (record { code = made .answer; changed = made .changes; octets = octets′; buffer = out′ }) (linked call octets out)
 unfolding linked
 linked-made call octets out e h w eo = rw (← e, h, eo, w .0, w .1)
 
 -- what seal and open tell of it
-pub seal-told : {l l′ : Linked} → l ≡ l′ → (l .number ≡ l′ .number) × (l .octets ≡ l′ .octets) × (l .buffer ≡ l′ .buffer)
-seal-told e = (ap (λ l. l .number) e, ap (λ l. l .octets) e, ap (λ l. l .buffer) e)
+pub seal-told : {l l′ : Linked} → l ≡ l′ → (l .code ≡ l′ .code) × (l .octets ≡ l′ .octets) × (l .buffer ≡ l′ .buffer)
+seal-told e = (ap (λ l. l .code) e, ap (λ l. l .octets) e, ap (λ l. l .buffer) e)
 
-pub open-told : {l l′ : Linked} → l ≡ l′ → (_≡_ {A = Opened} (record { answer = l .number; changes = l .changed }) (openedBy l′))
+pub open-told : {l l′ : Linked} → l ≡ l′ → (_≡_ {A = Opened} (record { answer = l .code; changes = l .changed }) (openedBy l′))
     × (l .octets ≡ l′ .octets) × (l .buffer ≡ l′ .buffer)
 unfolding openedBy
 open-told e = (ap openedBy e, ap (λ l. l .octets) e, ap (λ l. l .buffer) e)

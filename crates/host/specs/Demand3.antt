@@ -60,7 +60,7 @@ begins s start lent ok h =
 begun-is : (bits : ℕ) (start octets : List ℕ) → Begun bits start octets
     → (newLink (strengthOf bits) start .answer ≡ done) × (octets ≡ recordOctets (first (strengthOf bits) start))
 begun-is bits start octets (lent, long, e) =
-    let (ok, whole) = new-whole bits start lent long (ap (λ (g : Given). g .number) e) in
+    let (ok, whole) = new-whole bits start lent long (ap (λ (g : Given). g .code) e) in
     (ok, sym (ap (λ (g : Given). g .buffer) e) ∙ whole)
 
 pub demand-3-in-c : Demand3InC

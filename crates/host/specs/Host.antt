@@ -36,17 +36,17 @@ use Rattle.host.specs.declared.Opened.{Opened}
 
 -- what a call that writes a result gives: its number, and the lent buffer after it
 pub record Given : Type 0 where
-  pub number : ℕ
+  pub code : ℕ
   pub buffer : List ℕ
 
 -- the number that the result came with, then 2: "the lent output is shorter than the result"
-abbrev pub givenNumber : (code : ℕ) (result out : List ℕ) → ℕ
-givenNumber code result out = onDone code (firstOf ((room, ltb (length out) (length result)) ∷ [])) code
+abbrev pub givenCode : (code : ℕ) (result out : List ℕ) → ℕ
+givenCode code result out = onDone code (firstOf ((room, ltb (length out) (length result)) ∷ [])) code
 
 -- "On 0 only the result's octets are written; the rest of the buffer stays"
 unfoldable pub given : (code : ℕ) (result out : List ℕ) → Given
 given code result out =
-    record { number = givenNumber code result out; buffer = onDone (givenNumber code result out) (written result out) out }
+    record { code = givenCode code result out; buffer = onDone (givenCode code result out) (written result out) out }
 
 -- the answer of both checks, in a struct that C has
 unfoldable pub checkOf : Checked → Check
@@ -104,16 +104,16 @@ choiceOctets c = optionOctets (c .mode) (only (c .strength))
 abbrev pub replyOctets : CcpReply → List ℕ
 replyOctets (Accept c) = choiceOctets c
 replyOctets (CounterOffer c) = choiceOctets c
-replyOctets (Refused number) = []
+replyOctets (Refused code) = []
 
 -- .. and what is told of it; "an option reply is neither accept nor counter-offer" where its number is not 0
 unfoldable pub choiceReply : Bool → Choice → ℕ → Reply
-choiceReply accept c number = record { answer = number; accept = onDone number accept false; bits = onDone number (bitsOf (c .strength)) 0 }
+choiceReply accept c code = record { answer = code; accept = onDone code accept false; bits = onDone code (bitsOf (c .strength)) 0 }
 
 abbrev pub replyOf : CcpReply → ℕ → Reply
-replyOf (Accept c) number = choiceReply true c number
-replyOf (CounterOffer c) number = choiceReply false c number
-replyOf (Refused refusal) number = record { answer = number; accept = false; bits = 0 }
+replyOf (Accept c) code = choiceReply true c code
+replyOf (CounterOffer c) code = choiceReply false c code
+replyOf (Refused refused) code = record { answer = code; accept = false; bits = 0 }
 
 -- the strengths that a policy allows, by a yes or no for each
 abbrev pub allowedOf : Bool → Bool → Bool → Strengths
@@ -124,7 +124,7 @@ unfoldable pub optionGiven : (option : List ℕ) (allowed : Strengths) (out : Li
 optionGiven option allowed out = given (replyCodeOf (replyAnswer option allowed)) (replyOctets (replyAnswer option allowed)) out
 
 unfoldable pub optionReply : (option : List ℕ) (allowed : Strengths) (out : List ℕ) → Reply
-optionReply option allowed out = replyOf (replyAnswer option allowed) (optionGiven option allowed out .number)
+optionReply option allowed out = replyOf (replyAnswer option allowed) (optionGiven option allowed out .code)
 
 -- a new link: 8 where the number is no strength (house), before all else; "Start key: 16 at 128 bits, else 8"
 unfoldable pub newLinkGiven : (bits : ℕ) (start out : List ℕ) → Given
@@ -134,7 +134,7 @@ newLinkGiven bits start out =
 
 -- what a call on the record in lent octets gives: its number, the key changes made, and both lent buffers after it
 pub record Linked : Type 0 where
-  pub number : ℕ
+  pub code : ℕ
   pub changed : ℕ
   pub octets : List ℕ
   pub buffer : List ℕ
@@ -143,15 +143,15 @@ pub record Linked : Type 0 where
 abbrev pub linkedBy : Result → Linked
 linkedBy r =
     record {
-      number = r .outcome .answer;
+      code = r .outcome .answer;
       changed = r .outcome .changes;
       octets = recordOctets (r .outcome .link);
       buffer = r .buffer;
     }
 
 -- "Refusals 1 to 9 hand back the record given and change no lent octet"
-abbrev pub unchanged : (number : ℕ) (octets out : List ℕ) → Linked
-unchanged number octets out = record { number = number; changed = 0; octets = octets; buffer = out }
+abbrev pub unchanged : (code : ℕ) (octets out : List ℕ) → Linked
+unchanged code octets out = record { code = code; changed = 0; octets = octets; buffer = out }
 
 -- 7 where the octets hold no record; otherwise the call on the record that they hold, and the record that it hands back written over them
 unfoldable pub linked : (call : (Link → Result)) (octets out : List ℕ) → Linked
@@ -166,4 +166,4 @@ unfoldable pub openLinked : (octets packet out : List ℕ) → Linked
 openLinked octets packet out = linked (λ l. openResult longestPlain l packet out) octets out
 
 unfoldable pub openedBy : Linked → Opened
-openedBy l = record { answer = l .number; changes = l .changed }
+openedBy l = record { answer = l .code; changes = l .changed }

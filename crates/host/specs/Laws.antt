@@ -36,8 +36,8 @@ abbrev pub Refuses : (Link → Result) → List ℕ → Type 0
 Refuses call out = (l : Link) → call l .outcome .answer ≢ done → call l ≡ refusal (call l .outcome .answer) l out
 
 -- .. and so of the call on the record in lent octets
-pub linked-refused : (call : Link → Result) (octets out : List ℕ) → Refuses call out → Octets octets → linked call octets out .number ≢ done
-    → linked call octets out ≡ unchanged (linked call octets out .number) octets out
+pub linked-refused : (call : Link → Result) (octets out : List ℕ) → Refuses call out → Octets octets → linked call octets out .code ≢ done
+    → linked call octets out ≡ unchanged (linked call octets out .code) octets out
 unfolding linked
 linked-refused call octets out refuses all = go (recordRead octets .answer) refl
   where
@@ -47,7 +47,7 @@ linked-refused call octets out refuses all = go (recordRead octets .answer) refl
     made : ℕ → Linked
     made code = onDone code (linkedBy (call held)) (unchanged code octets out)
 
-    go : (code : ℕ) → recordRead octets .answer ≡ code → made code .number ≢ done → made code ≡ unchanged (made code .number) octets out
+    go : (code : ℕ) → recordRead octets .answer ≡ code → made code .code ≢ done → made code ≡ unchanged (made code .code) octets out
     go zero e not0 =
         ap linkedBy (refuses held not0) ∙ ap (λ o. unchanged (call held .outcome .answer) o out) (writes-back octets all e)
     go (suc n) e not0 = refl
@@ -58,16 +58,16 @@ refuses : (code : ℕ) (r : Result) (l : Link) (out : List ℕ) → r .outcome .
 refuses zero r l out e not0 = absurd (not0 e)
 refuses (suc n) r l out e not0 = refl
 
-pub seal-refused : (octets plain out : List ℕ) → Octets octets → sealLinked octets plain out .number ≢ done
-    → sealLinked octets plain out ≡ unchanged (sealLinked octets plain out .number) octets out
+pub seal-refused : (octets plain out : List ℕ) → Octets octets → sealLinked octets plain out .code ≢ done
+    → sealLinked octets plain out ≡ unchanged (sealLinked octets plain out .code) octets out
 unfolding sealLinked
 seal-refused octets plain out = linked-refused (λ l. sealResult longestPlain l plain out) octets out each
   where
     each : Refuses (λ l. sealResult longestPlain l plain out) out
     each l = unfold sealResult in refuses (sealCode longestPlain l plain (length out)) _ l out refl
 
-pub open-refused : (octets packet out : List ℕ) → Octets octets → openLinked octets packet out .number ≢ done
-    → openLinked octets packet out ≡ unchanged (openLinked octets packet out .number) octets out
+pub open-refused : (octets packet out : List ℕ) → Octets octets → openLinked octets packet out .code ≢ done
+    → openLinked octets packet out ≡ unchanged (openLinked octets packet out .code) octets out
 unfolding openLinked
 open-refused octets packet out = linked-refused (λ l. openResult longestPlain l packet out) octets out each
   where
@@ -75,19 +75,19 @@ open-refused octets packet out = linked-refused (λ l. openResult longestPlain l
     each l = unfold openResult in refuses (openCode longestPlain l packet (length out)) _ l out refl
 
 -- a result that fills the lent buffer
-pub given-fits : (result out : List ℕ) → length result ≡ length out → given done result out ≡ record { number = done; buffer = result }
+pub given-fits : (result out : List ℕ) → length result ≡ length out → given done result out ≡ record { code = done; buffer = result }
 unfolding given
 given-fits result out h =
     rw (le-ltb (length out) (length result) (omega arith), drop-of-length-le out {i = length result} (omega arith), append-nil)
 
-pub given-whole : (code : ℕ) (result out : List ℕ) → length result ≡ length out → given code result out .number ≡ done
+pub given-whole : (code : ℕ) (result out : List ℕ) → length result ≡ length out → given code result out .code ≡ done
     → (code ≡ done) × (given code result out .buffer ≡ result)
 unfolding given
 given-whole zero result out h ok = (refl, ap (λ (g : Given). g .buffer) (given-fits result out h))
 given-whole (suc n) result out h ok = absurd (omega arith)
 
 -- a new link that answered 0 into 35 lent octets leaves the octets of its record there
-pub new-whole : (bits : ℕ) (start lent : List ℕ) → length lent ≡ recordLength → newLinkGiven bits start lent .number ≡ done
+pub new-whole : (bits : ℕ) (start lent : List ℕ) → length lent ≡ recordLength → newLinkGiven bits start lent .code ≡ done
     → (newLink (strengthOf bits) start .answer ≡ done) × (newLinkGiven bits start lent .buffer ≡ recordOctets (newLink (strengthOf bits) start .link))
 unfolding newLinkGiven newLink
 new-whole bits start lent h ok =

@@ -15,7 +15,7 @@ use Rattle.host.specs.Host.{Linked, newLinkGiven, linkedBy, sealLinked, 
 -- "Both ends begin with one and the same record, that of a new link that answered 0": what such a call leaves in 35 lent octets
 abbrev pub Begun : (bits : ℕ) (start octets : List ℕ) → Type 0
 Begun bits start octets =
-    (lent : List ℕ) × (length lent ≡ recordLength) × (newLinkGiven bits start lent ≡ record { number = done; buffer = octets })
+    (lent : List ℕ) × (length lent ≡ recordLength) × (newLinkGiven bits start lent ≡ record { code = done; buffer = octets })
 
 -- "Each call gets the record that the last call at its end handed back": the octets as that call left them
 unfoldable pub sealsLinked : List ℕ → List SealCall → List Linked

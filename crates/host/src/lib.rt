@@ -67,7 +67,7 @@ pub extern "C" fn udukemb_nt_response(
     out: &mut [u8],
 ) -> u8
     ensures { λ r. ⌜ (r ≡ ntResponseGiven (now (authenticator .entry)) (now (peer .entry)) (now (name .entry)) (now (password .entry))
-        (now (out .entry)) .number)
+        (now (out .entry)) .code)
         × (now (out .exit) ≡ ntResponseGiven (now (authenticator .entry)) (now (peer .entry)) (now (name .entry)) (now (password .entry))
         (now (out .entry)) .buffer) ⌝ }
 {
@@ -87,7 +87,7 @@ pub extern "C" fn udukemb_authenticator_string(
     out: &mut [u8],
 ) -> u8
     ensures { λ r. ⌜ (r ≡ authenticatorStringGiven (now (password .entry)) (now (response .entry)) (now (peer .entry))
-        (now (authenticator .entry)) (now (name .entry)) (now (out .entry)) .number)
+        (now (authenticator .entry)) (now (name .entry)) (now (out .entry)) .code)
         × (now (out .exit) ≡ authenticatorStringGiven (now (password .entry)) (now (response .entry)) (now (peer .entry))
         (now (authenticator .entry)) (now (name .entry)) (now (out .entry)) .buffer) ⌝ }
 {
@@ -122,7 +122,7 @@ pub extern "C" fn udukemb_start_key(
     response: &[u8],
     out: &mut [u8],
 ) -> u8
-    ensures { λ r. ⌜ (r ≡ startKeyGiven bits server send (now (password .entry)) (now (response .entry)) (now (out .entry)) .number)
+    ensures { λ r. ⌜ (r ≡ startKeyGiven bits server send (now (password .entry)) (now (response .entry)) (now (out .entry)) .code)
         × (now (out .exit) ≡ startKeyGiven bits server send (now (password .entry)) (now (response .entry)) (now (out .entry)) .buffer) ⌝ }
 {
     if no_strength(bits) {
@@ -144,7 +144,7 @@ pub extern "C" fn udukemb_start_key(
 // The base key of an end's two start keys.
 #[no_mangle]
 pub extern "C" fn udukemb_base_key(server: bool, send: &[u8], receive: &[u8], out: &mut [u8]) -> u8
-    ensures { λ r. ⌜ (r ≡ baseKeyGiven server (now (send .entry)) (now (receive .entry)) (now (out .entry)) .number)
+    ensures { λ r. ⌜ (r ≡ baseKeyGiven server (now (send .entry)) (now (receive .entry)) (now (out .entry)) .code)
         × (now (out .exit) ≡ baseKeyGiven server (now (send .entry)) (now (receive .entry)) (now (out .entry)) .buffer) ⌝ }
 {
     let key = sstp::base_key(role_of(server), send, receive);
@@ -155,7 +155,7 @@ pub extern "C" fn udukemb_base_key(server: bool, send: &[u8], receive: &[u8], ou
 // The binding key of a base key, or of other key material.
 #[no_mangle]
 pub extern "C" fn udukemb_binding_key(material: &[u8], out: &mut [u8]) -> u8
-    ensures { λ r. ⌜ (r ≡ bindingKeyGiven (now (material .entry)) (now (out .entry)) .number)
+    ensures { λ r. ⌜ (r ≡ bindingKeyGiven (now (material .entry)) (now (out .entry)) .code)
         × (now (out .exit) ≡ bindingKeyGiven (now (material .entry)) (now (out .entry)) .buffer) ⌝ }
 {
     let key = sstp::binding_key(material);
@@ -190,7 +190,7 @@ pub extern "C" fn udukemb_option_reply(
 // The link record that both ends begin with.
 #[no_mangle]
 pub extern "C" fn udukemb_new_link(bits: u8, start: &[u8], link_record: &mut [u8]) -> u8
-    ensures { λ r. ⌜ (r ≡ newLinkGiven bits (now (start .entry)) (now (link_record .entry)) .number)
+    ensures { λ r. ⌜ (r ≡ newLinkGiven bits (now (start .entry)) (now (link_record .entry)) .code)
         × (now (link_record .exit) ≡ newLinkGiven bits (now (start .entry)) (now (link_record .entry)) .buffer) ⌝ }
 {
     if no_strength(bits) {
@@ -205,7 +205,7 @@ pub extern "C" fn udukemb_new_link(bits: u8, start: &[u8], link_record: &mut [u8
 // Seals a plain packet with the record in lent octets.
 #[no_mangle]
 pub extern "C" fn udukemb_seal(link_record: &mut [u8], plain: &[u8], out: &mut [u8]) -> u8
-    ensures { λ r. ⌜ (r ≡ sealLinked (now (link_record .entry)) (now (plain .entry)) (now (out .entry)) .number)
+    ensures { λ r. ⌜ (r ≡ sealLinked (now (link_record .entry)) (now (plain .entry)) (now (out .entry)) .code)
         × (now (link_record .exit) ≡ sealLinked (now (link_record .entry)) (now (plain .entry)) (now (out .entry)) .octets)
         × (now (out .exit) ≡ sealLinked (now (link_record .entry)) (now (plain .entry)) (now (out .entry)) .buffer) ⌝ }
 {
@@ -244,7 +244,7 @@ pub extern "C" fn udukemb_open(link_record: &mut [u8], packet: &[u8], out: &mut 
 
 // Writes a result into the front of a lent buffer, where it came with 0 and has room.
 fn give(code: u8, result: &[u8], out: &mut [u8]) -> u8
-    ensures { λ r. ⌜ (r ≡ given code (now (result .entry)) (now (out .entry)) .number)
+    ensures { λ r. ⌜ (r ≡ given code (now (result .entry)) (now (out .entry)) .code)
         × (now (out .exit) ≡ given code (now (result .entry)) (now (out .entry)) .buffer) ⌝ }
 {
     if code != answer::DONE {
@@ -324,7 +324,7 @@ fn master_key_from(password: &[u8], response: &[u8]) -> mppe_keys::Key
 
 // Writes the option of a choice.
 fn put_reply(accept: bool, choice: Choice, out: &mut [u8]) -> Reply
-    ensures { λ r. ⌜ (r ≡ choiceReply accept choice (given done (choiceOctets choice) (now (out .entry)) .number))
+    ensures { λ r. ⌜ (r ≡ choiceReply accept choice (given done (choiceOctets choice) (now (out .entry)) .code))
         × (now (out .exit) ≡ given done (choiceOctets choice) (now (out .entry)) .buffer) ⌝ }
 {
     let mode = choice.mode;

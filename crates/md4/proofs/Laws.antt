@@ -11,7 +11,7 @@ use borrow.Author.Tests.{lt-ltb, le-ltb}
 use Rattle.octets.specs.Octets.{wordLE, longestText}
 use Rattle.octets.specs.Words.{_⊞_, rotl}
 use Rattle.octets.specs.declared.Order.the-variants.{LowestFirst}
-use Rattle.octets.proofs.Below.{both, both-left, both-right, below}
+use Rattle.octets.specs.Below.{both, both-left, both-right, below}
 use Rattle.answer.specs.Answer.{done, size, pick}
 use Rattle.blocks.specs.Blocks.{rounds, hashed}
 use Rattle.blocks.specs.Laws.{add-swap, rounds-add}

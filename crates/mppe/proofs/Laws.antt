@@ -22,11 +22,11 @@ use Rattle.mppe_keys.specs.declared.Strength.{Strength}
 use Rattle.mppe_keys.specs.declared.Key.{Key}
 use Rattle.mppe_keys.specs.Keys.{keyLength, headOf, begins, changes, initialKey, rc4}
 use Rattle.mppe_keys.specs.Answers.{keyAnswer, initialKeyAnswer, placedChanges}
-use Rattle.mppe_keys.specs.Laws.{key-least, key-most, keyChange-length, changes-one}
-use Rattle.mppe_keys.proofs.Laws.{key-placed}
+use Rattle.mppe_keys.specs.Laws.{key-placed, key-least, key-most, keyChange-length, changes-one}
 use Rattle.mppe.specs.declared.Link.{Link}
 use Rattle.mppe.specs.declared.Outcome.{Outcome}
-use Rattle.mppe.specs.Link.{shortestPlain, longestPlain, front, counts, newCount, zeros, wellFormed, startKeyIn, sessionKeyIn, renewed, newLink, newLinkCode, offProtocol, bitA, bitD, header, sealedPacket, headerIn, dataIn, countOf, lacks, Result, refusal, plainRows, nextCount, nextKey, sealCode, sealResult, changesFor, keyFor, plainFor, linkAfter, frontRows, headerRows, dataRows, openCode, openResult}
+use Rattle.mppe.specs.Link.{shortestPlain, longestPlain, front, counts, newCount, zeros, wellFormed, startKeyIn, sessionKeyIn, renewed, newLink, newLinkCode, offProtocol, bitA, bitD, header, sealedPacket, headerIn, dataIn, countOf, lacks, Result, refusal}
+use Rattle.mppe.specs.Link.{plainRows, nextCount, nextKey, sealCode, sealResult, changesFor, keyFor, plainFor, linkAfter, frontRows, headerRows, dataRows, openCode, openResult}
 use Rattle.mppe.specs.Inner.{frontCode, headerCode, dataResult}
 use Rattle.mppe.specs.Laws.{both, key-back}
 
@@ -67,7 +67,7 @@ cipher-is l n en e h =
 
 -- the front of a sealed packet
 pub front-put : {out′ : List ℕ} (count a b : ℕ) (out : List ℕ) → out′ ≡ written (take (length out) (0x00 ∷ 0xFD ∷ a ∷ b ∷ [])) out
-    → a ≡ (0x9000 + count) / 256 → b ≡ (0x9000 + count) % 256 → count < 4096 → 4 ≤ length out → out′ ≡ written (0x00 ∷ 0xFD ∷ header count) out
+    → a ≡ (0x9000 + count) / 256 → b ≡ (0x9000 + count) % 256 → count < counts → front ≤ length out → out′ ≡ written (0x00 ∷ 0xFD ∷ header count) out
 front-put count a b out e ea eb h long =
     let high : a ≡ (bitA + bitD + count) / 256 ^ 1 % 256 = omega arith in
     let low : b ≡ (bitA + bitD + count) / 256 ^ 0 % 256 = omega arith in

@@ -25,6 +25,7 @@ use Rattle.mppe_keys.specs.declared.Direction.{Direction}
 use Rattle.mppe_keys.specs.declared.Key.{Key}
 use Rattle.mppe_keys.specs.Keys.{keyLength, magic1, magic2, magic3, fromClient, phrase, masterKey, startKey, initialKey, keyText, newKey, headOf, begins, reduced, rc4, keyChange, changes, placed}
 use Rattle.mppe_keys.specs.Answers.{keyAnswer, keyChangeAnswer, keyChangesAnswer, placedChanges}
+use Rattle.octets.specs.Laws.{written-more}
 use Rattle.mppe_keys.specs.Inner.{refusedKey, Changed}
 use Rattle.mppe_keys.specs.Laws.{key-least, key-most, head-most, reduced-length, keyChange-length, changes-length, changes-one, changes-add}
 
@@ -33,39 +34,15 @@ pub digest-done : {d : Digest} (m : List ℕ) → d ≡ sha1Answer m → length 
 unfolding sha1Answer
 digest-done m e h = rw (e, le-ltb longestText (length m) h)
 
--- what is left of n equal octets
-drop-replicate : (m n a : ℕ) → drop n (replicate m a) ≡ replicate (m - n) a
-drop-replicate m zero a =
-    let e : m - 0 ≡ m = omega arith in
-    rw e
-drop-replicate zero (suc n) a =
-    let e : 0 - suc n ≡ 0 = omega arith in
-    rw e
-drop-replicate (suc m) (suc n) a =
-    let e : suc m - suc n ≡ m - n = omega arith in
-    rw (e, drop-replicate m n a)
-
--- a key copied over zeros
-pub key-placed : {places : List ℕ} (key : List ℕ) → places ≡ written (take 16 key) (replicate 16 0) → length key ≤ 16 → places ≡ placed key
-unfolding placed
-key-placed key e h = rw (e, take-all 16 key h, drop-replicate 16 (length key) 0)
-
--- one part more behind what is written into the front of a buffer
-grown : {t t′ : List ℕ} (l out x : List ℕ) (at : ℕ) → t ≡ written l out → t′ ≡ take at t ++ x ++ drop (at + length x) t → length l ≡ at
-    → t′ ≡ written (l ++ x) out
-grown l out x at e e′ h =
-    rw
-    (e′, e, ← h, take-append-seam l (drop (length l) out), drop-append-add l (drop (length l) out) (length x), drop-drop (length x) (length l) out, length-append l x, append-assoc)
-
 -- what is hashed for a master key
 pub master-laid : {t₁ t₂ t₃ : List ℕ} (z a b x : List ℕ) → x ≡ magic1 → t₁ ≡ take 0 z ++ a ++ drop (0 + length a) z
     → t₂ ≡ take 16 t₁ ++ b ++ drop (16 + length b) t₁ → t₃ ≡ take 40 t₂ ++ x ++ drop (40 + length x) t₂ → length a ≡ 16 → length b ≡ 24
     → length z ≡ 40 + length x → t₃ ≡ a ++ b ++ magic1
 master-laid z a b x ex e₁ e₂ e₃ ha hb hz =
-    let g₁ = grown [] z a 0 refl e₁ refl in
-    let g₂ = grown a z b 16 g₁ e₂ ha in
+    let g₁ = written-more [] z a 0 refl e₁ refl in
+    let g₂ = written-more a z b 16 g₁ e₂ ha in
     let front : length (a ++ b) ≡ 40 = simp length-append (omega arith) in
-    let g₃ = grown (a ++ b) z x 40 g₂ e₃ front in
+    let g₃ = written-more (a ++ b) z x 40 g₂ e₃ front in
     let size : length ((a ++ b) ++ x) ≡ length z = simp length-append (omega arith) in
     g₃ ∙ rw (size, drop-length z, append-nil, ex, append-assoc)
 
@@ -75,12 +52,12 @@ pub text-put : {t₁ t₂ t₃ t₄ : List ℕ} (out a b : List ℕ) → t₁ �
     → t₄ ≡ take (length a + 40 + length b) t₃ ++ replicate 40 0xF2 ++ drop (length a + 40 + length b + 40) t₃ → t₄ ≡ written (keyText a b) out
 unfolding keyText
 text-put out a b e₁ e₂ e₃ e₄ =
-    let g₁ = grown [] out a 0 refl e₁ refl in
-    let g₂ = grown a out (replicate 40 0) (length a) g₁ e₂ refl in
+    let g₁ = written-more [] out a 0 refl e₁ refl in
+    let g₂ = written-more a out (replicate 40 0) (length a) g₁ e₂ refl in
     let front : length (a ++ replicate 40 0) ≡ length a + 40 = length-append a (replicate 40 0) in
-    let g₃ = grown (a ++ replicate 40 0) out b (length a + 40) g₂ e₃ front in
+    let g₃ = written-more (a ++ replicate 40 0) out b (length a + 40) g₂ e₃ front in
     let middle : length ((a ++ replicate 40 0) ++ b) ≡ length a + 40 + length b = simp length-append (omega arith) in
-    let g₄ = grown ((a ++ replicate 40 0) ++ b) out (replicate 40 0xF2) (length a + 40 + length b) g₃ e₄ middle in
+    let g₄ = written-more ((a ++ replicate 40 0) ++ b) out (replicate 40 0xF2) (length a + 40 + length b) g₃ e₄ middle in
     let parts : ((a ++ replicate 40 0) ++ b) ++ replicate 40 0xF2 ≡ a ++ replicate 40 0 ++ b ++ replicate 40 0xF2 = simp append-assoc in
     g₄ ∙ ap (λ (l : List ℕ). written l out) parts
 

@@ -4,8 +4,10 @@ use mathlib.Core.List.{List, _++_}
 use Prim.Native.Nat.{ℕ, zero, suc, _+_, _-_, _≤_}
 use native.Mathlib.Nat.{add-zero, add-suc}
 use native.Mathlib.Omega.{arith}
-use lib.ListN.{length, take, drop, length-append, length-drop, length-replicate}
-use lib.Seq.{length-take-le, take-append-seam, drop-append-seam}
+use lib.ListN.{length, take, drop, replicate, length-append, length-drop, length-replicate}
+use lib.Seq.{length-take-le, take-all, take-append-seam, drop-append-seam}
+use Rattle.octets.specs.Octets.{written}
+use Rattle.octets.specs.Laws.{drop-zeros}
 use Rattle.sha1.specs.Sha1.{sha1}
 use Rattle.sha1.specs.Laws.{sha1-length}
 use Rattle.rc4.specs.Cipher.{keySchedule}
@@ -26,6 +28,11 @@ pub key-most : (s : Strength) → keyLength s ≤ 16
 key-most Bits40 = omega arith
 key-most Bits56 = omega arith
 key-most Bits128 = omega arith
+
+-- a key copied over zeros
+pub key-placed : {places : List ℕ} (key : List ℕ) → places ≡ written (take 16 key) (replicate 16 0) → length key ≤ 16 → places ≡ placed key
+unfolding placed
+key-placed key e h = rw (e, take-all 16 key h, drop-zeros)
 
 -- up to three of them are fixed
 pub head-most : (s : Strength) → length (headOf s) ≤ 3

@@ -15,7 +15,7 @@ use borrow.Author.Tests.{ltb-false, lt-ltb, le-ltb, eq-eqb, ne-eqb}
 use Rattle.answer.specs.Answer.{done, size, domain, pick, firstOf, onDone, wrong}
 use Rattle.answer.specs.Laws.{clear, rows-pass, rows-stop, told}
 use Rattle.octets.specs.Octets.{written, writtenAt, longestText}
-use Rattle.octets.proofs.Below.{below}
+use Rattle.octets.specs.Below.{below}
 use Rattle.octets.specs.Laws.{grown, append-more}
 use Rattle.md4.specs.Md4.{md4, md4Answer}
 use Rattle.md4.specs.declared.Digest.{Digest as Md4Digest}

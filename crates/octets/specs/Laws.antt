@@ -7,7 +7,7 @@ use native.Mathlib.Omega.{arith}
 use lib.Arith.{mod-mul}
 use lib.ListN.{length, take, drop, replicate, length-append, length-replicate}
 use lib.Seq.{length-take-le, take-all, drop-drop, take-append-seam, drop-append-add}
-use Rattle.octets.specs.Octets.{bigEndian, joined, fromBigEndian, writtenAt}
+use Rattle.octets.specs.Octets.{bigEndian, joined, fromBigEndian, written, writtenAt}
 
 -- the octets of a number, and the number back from them
 pub bigEndian-length : (k n : ℕ) → length (bigEndian k n) ≡ k
@@ -65,3 +65,10 @@ pub append-more : {b b′ : List ℕ} (l q : List ℕ) (at n : ℕ) → b ≡ l 
 append-more l q at n e e′ ea h =
     let long : length (replicate {A = ℕ} n 0) ≡ n = length-replicate n 0 in
     grown l (replicate n 0) q at e e′ (sym ea) (omega arith) ∙ rw drop-zeros
+
+-- one part more behind what is written into the front of a buffer
+pub written-more : {t t′ : List ℕ} (l out q : List ℕ) (at : ℕ) → t ≡ written l out → t′ ≡ take at t ++ q ++ drop (at + length q) t → length l ≡ at
+    → t′ ≡ written (l ++ q) out
+written-more l out q at e e′ h =
+    rw
+    (e′, e, ← h, take-append-seam l (drop (length l) out), drop-append-add l (drop (length l) out) (length q), drop-drop (length q) (length l) out, length-append l q, append-assoc)

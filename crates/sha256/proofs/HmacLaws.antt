@@ -10,7 +10,7 @@ use lib.Seq.{take-all, take-suc, drop-cons, set-at, length-take-le, take-length,
 use borrow.Author.Tests.{lt-ltb, le-ltb}
 use Rattle.octets.specs.Octets.{written, longestText}
 use Rattle.octets.specs.declared.Order.the-variants.{HighestFirst}
-use Rattle.blocks.specs.Blocks.{closed}
+use Rattle.blocks.specs.Inner.{closed}
 use Rattle.blocks.specs.Laws.{hashed-behind-one}
 use Rattle.octets.specs.Laws.{drop-zeros}
 use Rattle.sha256.specs.Sha256.{compress, initial, octetsIn, sha256}

@@ -10,7 +10,7 @@ use borrow.Author.Tests.{lt-ltb, le-ltb}
 use Rattle.octets.specs.Octets.{wordBE, longestText}
 use Rattle.octets.specs.Words.{_⊞_}
 use Rattle.octets.specs.declared.Order.the-variants.{HighestFirst}
-use Rattle.blocks.specs.Blocks.{schedule, rounds, closed}
+use Rattle.blocks.specs.Inner.{closed}
 use Rattle.blocks.specs.Laws.{add-swap, rounds-add, closed-alone}
 use Rattle.sha256.specs.Sha256.{ch, maj, Σ₀, Σ₁, k, lateWord, round, added, compress, initial, octetsIn, sha256, sha256Answer}
 use Rattle.sha256.specs.Inner.{refusedDigest}

@@ -4,7 +4,7 @@ use native.Mathlib.Omega.{arith}
 use lib.ListN.{length}
 use denote.Ref.{now}
 use borrow.Author.Needs.{needs}
-use Rattle.blocks.proofs.Tails.{tail-is}
+use Rattle.blocks.specs.Tails.{tail-is}
 use Rattle.blocks.proofs.padded_tail.Statement.{statement}
 use Rattle.blocks.proofs.padded_tail.Tie as tie
 

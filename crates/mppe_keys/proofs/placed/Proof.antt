@@ -1,5 +1,5 @@
 use borrow.Author.Needs.{needs}
-use Rattle.mppe_keys.proofs.Laws.{key-placed}
+use Rattle.mppe_keys.specs.Laws.{key-placed}
 use Rattle.mppe_keys.proofs.placed.Statement.{statement}
 use Rattle.mppe_keys.proofs.placed.Tie as tie
 

@@ -5,7 +5,7 @@ use lib.ListN.{length}
 use denote.Ref.{now}
 use borrow.Author.Needs.{needs}
 use Rattle.blocks.specs.Laws.{closed-by, closed-alone}
-use Rattle.blocks.proofs.Tails.{tail-fits, tail-part}
+use Rattle.blocks.specs.Tails.{tail-fits, tail-part}
 use Rattle.sha1.proofs.hashed.Statement.{statement}
 use Rattle.sha1.proofs.hashed.Tie as tie
 

@@ -2,7 +2,7 @@ use mathlib.Core.Path.{refl}
 use denote.Ref.{now}
 use borrow.Author.Needs.{needs}
 use Rattle.blocks.specs.Laws.{closed-by}
-use Rattle.blocks.proofs.Tails.{tail-fits, tail-part}
+use Rattle.blocks.specs.Tails.{tail-fits, tail-part}
 use Rattle.sha256.proofs.closed.Statement.{statement}
 use Rattle.sha256.proofs.closed.Tie as tie
 
