@@ -8,7 +8,7 @@ use Rattle.mppe_keys.specs.declared.Strength.{Strength}
 use Rattle.mppe_keys.specs.Keys.{bitsOf}
 use Rattle.mppe.specs.declared.Link.{Link}
 use Rattle.mppe.specs.Link.{Result, longestPlain, newLink, newLinkCode, sealResult, openResult}
-use Rattle.mppe.specs.Run.{SealCall, OpenCall, arrival, other, first, sealRun, openRun, Demand3}
+use Rattle.mppe.specs.Run.{SealCall, OpenCall, octetsLent, roomLent, first, sealRun, openRun, Demand3}
 use Rattle.mppe.specs.Demand3.{demand-3-base}
 use Rattle.mppe_record.specs.Record.{strengthOf, recordLength, recordOctets}
 use Rattle.mppe_record.specs.Laws.{bits-back, bits-known, Sized, recordOctets-length, new-sized, seal-sized, open-sized}
@@ -35,12 +35,9 @@ seals-linked (c ∷ cs) l h =
 pub opens-linked : (cs : List OpenCall) (l : Link) → Sized l → opensLinked (recordOctets l) cs ≡ map linkedBy (openRun longestPlain l cs)
 unfolding opensLinked openRun openLinked
 opens-linked [] l h = refl
-opens-linked (arrival q packet room ∷ cs) l h =
-    one-more (λ l. openResult longestPlain l packet room) (λ o. opensLinked o cs) (λ l. openRun longestPlain l cs) l room h
-    (open-sized longestPlain l packet room h) (opens-linked cs)
-opens-linked (other packet room ∷ cs) l h =
-    one-more (λ l. openResult longestPlain l packet room) (λ o. opensLinked o cs) (λ l. openRun longestPlain l cs) l room h
-    (open-sized longestPlain l packet room h) (opens-linked cs)
+opens-linked (c ∷ cs) l h =
+    one-more (λ l. openResult longestPlain l (octetsLent c) (roomLent c)) (λ o. opensLinked o cs) (λ l. openRun longestPlain l cs) l (roomLent c) h
+    (open-sized longestPlain l (octetsLent c) (roomLent c) h) (opens-linked cs)
 
 -- a new link's number
 new-code : (s : Strength) (start : List ℕ) → newLink s start .answer ≡ done → newLinkCode s start ≡ done

@@ -8,7 +8,7 @@ use lib.ListN.{length}
 use Rattle.answer.specs.Answer.{done}
 use Rattle.mppe_keys.specs.declared.Strength.{Strength}
 use Rattle.mppe.specs.Link.{longestPlain}
-use Rattle.mppe.specs.Run.{mostLost, SealCall, OpenCall, arrival, other, Packet, first, beginning, packets, said, Meets, due}
+use Rattle.mppe.specs.Run.{mostLost, SealCall, OpenCall, octetsLent, roomLent, Packet, first, beginning, packets, said, Meets, due}
 use Rattle.mppe_record.specs.Record.{strengthOf, recordLength}
 use Rattle.host.specs.Host.{Linked, newLinkGiven, linkedBy, sealLinked, openLinked}
 
@@ -24,8 +24,7 @@ sealsLinked octets (c ∷ cs) = let r : Linked = sealLinked octets (c .plain) (c
 
 unfoldable pub opensLinked : List ℕ → List OpenCall → List Linked
 opensLinked octets [] = []
-opensLinked octets (arrival q packet room ∷ cs) = let r : Linked = openLinked octets packet room in r ∷ opensLinked (r .octets) cs
-opensLinked octets (other packet room ∷ cs) = let r : Linked = openLinked octets packet room in r ∷ opensLinked (r .octets) cs
+opensLinked octets (c ∷ cs) = let r : Linked = openLinked octets (octetsLent c) (roomLent c) in r ∷ opensLinked (r .octets) cs
 
 -- "This is a single claim about the two lists": each seal call answers, writes and leaves in its record's octets what the history says,
 -- and each open call answers, reports, writes and leaves there what is due; every record as its octets

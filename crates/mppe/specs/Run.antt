@@ -25,6 +25,14 @@ pub data OpenCall : Type 0 where
   arrival : ℕ → List ℕ → List ℕ → OpenCall
   other : List ℕ → List ℕ → OpenCall
 
+abbrev pub octetsLent : OpenCall → List ℕ
+octetsLent (arrival q octets room) = octets
+octetsLent (other octets room) = octets
+
+abbrev pub roomLent : OpenCall → List ℕ
+roomLent (arrival q octets room) = room
+roomLent (other octets room) = room
+
 -- a packet that the history gives, with the plain packet sealed in it and the history's record for it
 pub record Packet : Type 0 where
   pub plain : List ℕ
@@ -72,8 +80,7 @@ module _ (limit : ℕ) where
 
   unfoldable pub openRun : Link → List OpenCall → List Result
   openRun l [] = []
-  openRun l (arrival q octets room ∷ cs) = let r : Result = openResult limit l octets room in r ∷ openRun (r .outcome .link) cs
-  openRun l (other octets room ∷ cs) = let r : Result = openResult limit l octets room in r ∷ openRun (r .outcome .link) cs
+  openRun l (c ∷ cs) = let r : Result = openResult limit l (octetsLent c) (roomLent c) in r ∷ openRun (r .outcome .link) cs
 
   -- ".. and, for each seal call, the plain packet and the length of the lent buffer": which of 3, 4 and 2 applies
   unfoldable pub saidCode : SealCall → ℕ
