@@ -64,6 +64,34 @@ static void show_digest(const char *label, size_t number, struct outcome o, cons
     show(label, number, o, digest, sizeof digest);
 }
 
+/* What is read of a record's first octets with zeros behind them: 35 octets whose first is a strength, or else 7, 40 bits and zeros. */
+static void show_read(size_t number, const octet record[RECORD_OCTETS], size_t given)
+{
+    static const octet none[RECORD_OCTETS] = {40};
+    bool known = record[0] == 40 || record[0] == 56 || record[0] == 128;
+    bool whole = given == RECORD_OCTETS && known;
+
+    numbered("read", number, whole ? DONE : RECORD, whole ? record : none, RECORD_OCTETS);
+}
+
+/* Records of other lengths, and with other numbers of bits. */
+static void reads(octet bits)
+{
+    struct outcome o = fresh(bits);
+    static const size_t ranges[][2] = {{38, 59}, {126, 131}};
+
+    numbered("cases from", 33, 0, NULL, 0);
+    for (size_t n = 33; n < 38; n++)
+        show_read(n, o.record, n);
+    for (int k = 0; k < 2; k++) {
+        numbered("cases from", ranges[k][0], 0, NULL, 0);
+        for (size_t n = ranges[k][0]; n < ranges[k][1]; n++) {
+            o.record[0] = (octet)n;
+            show_read(n, o.record, RECORD_OCTETS);
+        }
+    }
+}
+
 /* The sample's message behind a header, as it is printed: under the initial session key, which no packet has. */
 static void sample(octet bits)
 {
@@ -196,6 +224,7 @@ static void cases(octet bits)
 
         numbered("link", n, o.answer, o.record, RECORD_OCTETS);
     }
+    reads(bits);
     sample(bits);
     distances(bits);
     numbered("cases from", 0, 0, NULL, 0);

@@ -1,9 +1,10 @@
-// The fixed cases: new links, RFC 3079's message, distances, and every way to be refused.
+// The fixed cases: new links, records read, RFC 3079's message, distances, and every way to be refused.
 ghost use Prim.Native.Nat.{_<_};
 use crate::LENT;
 use crate::Trial;
 use crate::fresh;
 use crate::headed;
+use crate::least;
 use crate::new_link;
 use crate::open_within;
 use crate::seal_within;
@@ -16,6 +17,8 @@ use mppe_record::record_octets;
 // What a case of a number is about.
 enum Kind {
     NewLink,
+    Octets,
+    Bits,
     Rows,
     Record,
     Room,
@@ -28,6 +31,9 @@ enum Kind {
 pub fn all(strength: Strength) {
     headed(strength);
     each(strength, Kind::NewLink, 0, 18);
+    each(strength, Kind::Octets, 33, 38);
+    each(strength, Kind::Bits, 38, 59);
+    each(strength, Kind::Bits, 126, 131);
     show_sample(fresh(strength), strength);
     distances(strength);
     each(strength, Kind::Rows, 0, 64);
@@ -51,6 +57,8 @@ fn each(strength: Strength, kind: Kind, from: usize, to: usize) {
 fn case(link: Link, kind: Kind, n: usize) {
     match kind {
         Kind::NewLink => show_new(link, n),
+        Kind::Octets => show_read(n, record_octets(link), n),
+        Kind::Bits => show_read(n, with_bits(record_octets(link), n), 35),
         _ => both(n, link, record_of(link, kind, n), trial_of(kind, n)),
     }
 }
@@ -82,6 +90,23 @@ fn show_new(link: Link, n: usize) {
     let made = new_link(strength, n);
     let begun = made.link;
     report::numbered(b"link", n, made.answer, &record_octets(begun));
+}
+
+// A record's octets with another number of bits.
+fn with_bits(octets: [u8; 35], bits: usize) -> [u8; 35] {
+    let mut out = octets;
+    out[0] = (bits % 256) as u8;
+    out
+}
+
+// What is read of the first octets of a record, and zeros behind it.
+fn show_read(n: usize, octets: [u8; 35], given: usize) {
+    let mut lent = [0u8; 40];
+    octets::copy(&octets, &mut lent);
+    let end = least(given, 40);
+    let read = mppe_record::read_record(&lent[0..end]);
+    let link = read.link;
+    report::numbered(b"read", n, read.answer, &record_octets(link));
 }
 
 // A plain packet sealed, and the first packet of a link opened, both with one record and as one trial says.
