@@ -48,7 +48,7 @@ returns-3 : tie.Need-returns-3
 returns-3 c =
     let known = c .before .before in
     let asked = known .before .before in
-    replied _ _ _ (asked .reply-to .ensures .0) (known .code .given .1) (reply-refused _ _ (c .refused-reply .ensures))
+    replied _ _ _ (asked .reply-to .ensures .0) (known .number .given .1) (reply-refused _ _ (c .refused-reply .ensures))
 
 pub udukemb-option-reply-spec : {M : Type 1} → statement M
 udukemb-option-reply-spec =
