@@ -7,22 +7,21 @@ use native.Mathlib.Numerals.{add-one}
 use native.Mathlib.Omega.{arith}
 use lib.Dec.{eqb, ltb, lit≤}
 use lib.ListN.{length, take, drop, getD, replicate, drop-of-length-le, length-append, length-drop}
-use lib.Seq.{drop-cons, drop-drop, drop-length, take-all, take-at, drop-at, length-take-le}
+use lib.Seq.{drop-cons, drop-drop, drop-length, take-all, take-at, drop-at}
 use borrow.Author.Tests.{lt-ltb, le-ltb, eq-eqb, ne-eqb, ltb-true, ltb-false, eqb-false, not-true, not-false}
 use borrow.Rule.Slice.PartMut.{putMid}
 use Rattle.answer.specs.Answer.{done, shape, room, size, protocol, flags, repeat, notRecord, outside, wrong, firstOf, onDone, oneCode}
 use Rattle.answer.specs.Laws.{clear, rows-pass, rows-stop, not-done, outside-low, within, right, right-length}
 use Rattle.octets.specs.Octets.{written}
 use Rattle.rc4.specs.declared.Rc4.{Rc4}
-use Rattle.rc4.specs.declared.Keyed.{Keyed}
 use Rattle.rc4.specs.Cipher.{keySchedule, run}
-use Rattle.rc4.specs.Answers.{keyedAnswer, runOut}
-use Rattle.rc4.specs.Laws.{keyed-done, run-done}
+use Rattle.rc4.specs.Answers.{runOut}
+use Rattle.rc4.specs.Laws.{run-done}
 use Rattle.mppe_keys.specs.declared.Strength.{Strength}
 use Rattle.mppe_keys.specs.declared.Key.{Key}
 use Rattle.mppe_keys.specs.Keys.{keyLength, headOf, begins, changes, initialKey, rc4}
 use Rattle.mppe_keys.specs.Answers.{keyAnswer, initialKeyAnswer, placedChanges}
-use Rattle.mppe_keys.specs.Laws.{key-placed, key-least, key-most, keyChange-length, changes-one}
+use Rattle.mppe_keys.specs.Laws.{key-placed, key-most, keyChange-length, changes-one}
 use Rattle.mppe.specs.declared.Link.{Link}
 use Rattle.mppe.specs.declared.Outcome.{Outcome}
 use Rattle.mppe.specs.Link.{shortestPlain, longestPlain, front, counts, newCount, zeros, wellFormed, startKeyIn, sessionKeyIn, renewed, newLink, newLinkCode, offProtocol, bitA, bitD, header, sealedPacket, headerIn, dataIn, countOf, lacks, Result, refusal}
@@ -56,14 +55,6 @@ pub moved-is : {places : List ℕ} (l : Link) (n count : ℕ) → places ≡ pla
     ≡ renewed l (changes (l .strength) (startKeyIn l) n (sessionKeyIn l)) count
 unfolding placedChanges
 moved-is l n count e = rw e
-
--- RC4 keyed with a record's session key
-pub cipher-is : {k : Keyed} (l : Link) (n : ℕ) → n ≡ keyLength (l .strength) → k ≡ keyedAnswer (take n (l .session)) → length (l .session) ≡ 16
-    → k .state ≡ keySchedule (sessionKeyIn l)
-cipher-is l n en e h =
-    let s : Strength = l .strength in
-    let long : length (sessionKeyIn l) ≡ keyLength s = length-take-le (keyLength s) (l .session) (omega (arith, key-most s)) in
-    rw (e, en, keyed-done (sessionKeyIn l) (omega (arith, long, key-least s)) (omega (arith, long, key-most s)))
 
 -- the front of a sealed packet
 pub front-put : {out′ : List ℕ} (count a b : ℕ) (out : List ℕ) → out′ ≡ written (take (length out) (0x00 ∷ 0xFD ∷ a ∷ b ∷ [])) out

@@ -312,9 +312,7 @@ fn cipher_of(link: Link) -> Rc4
 {
     let strength = link.strength;
     let session = link.session;
-    let n = key_length(strength);
-    let keyed = Rc4::keyed(&session[..n]);
-    keyed.state
+    mppe_keys::placed_cipher(strength, session)
 }
 
 // Writes what stands before a sealed packet's data.

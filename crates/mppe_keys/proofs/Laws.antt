@@ -24,7 +24,7 @@ use Rattle.mppe_keys.specs.declared.Role.{Role}
 use Rattle.mppe_keys.specs.declared.Direction.{Direction}
 use Rattle.mppe_keys.specs.declared.Key.{Key}
 use Rattle.mppe_keys.specs.Keys.{keyLength, magic1, magic2, magic3, fromClient, phrase, masterKey, startKey, initialKey, keyText, newKey, headOf, begins, reduced, rc4, keyChange, changes, placed}
-use Rattle.mppe_keys.specs.Answers.{keyAnswer, keyChangeAnswer, keyChangesAnswer, placedChanges}
+use Rattle.mppe_keys.specs.Answers.{keyAnswer, keyChangeAnswer, keyChangesAnswer, placedChanges, placedCipher}
 use Rattle.octets.specs.Laws.{written-more}
 use Rattle.mppe_keys.specs.Inner.{refusedKey, Changed}
 use Rattle.mppe_keys.specs.Laws.{key-least, key-most, head-most, reduced-length, keyChange-length, changes-length, changes-one, changes-add}
@@ -250,6 +250,13 @@ pub places-changed : {k : ℕ} {key : List ℕ} (s : Strength) (start session : 
     → key ≡ placed (changes s (take k start) n (take k session)) → key ≡ placedChanges s start session n
 unfolding placedChanges
 places-changed s start session n ek e = rw (e, ek)
+
+pub places-keyed : {k : ℕ} {keyed : Keyed} (s : Strength) (session : List ℕ) → k ≡ keyLength s → keyed ≡ keyedAnswer (take k session) → length session ≡ 16
+    → keyed .state ≡ placedCipher s session
+unfolding placedCipher
+places-keyed s session ek e h =
+    let long = length-take-le (keyLength s) session (omega (arith, key-most s)) in
+    rw (e, ek, keyed-done (take (keyLength s) session) (omega (arith, long, key-least s)) (omega (arith, long, key-most s)))
 
 -- the ways out of a call with one length
 pub one-wrong : (n : ℕ) (a key : List ℕ) → (length a ≡ n → ⊥) → refusedKey ≡ keyAnswer (oneCode n a) key

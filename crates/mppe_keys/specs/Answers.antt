@@ -3,6 +3,8 @@ use mathlib.Core.List.{List}
 use Prim.Native.Nat.{ℕ}
 use lib.ListN.{take, replicate}
 use Rattle.answer.specs.Answer.{onDone, oneCode, twoCode}
+use Rattle.rc4.specs.declared.Rc4.{Rc4}
+use Rattle.rc4.specs.Cipher.{keySchedule}
 use Rattle.mppe_keys.specs.declared.Strength.{Strength}
 use Rattle.mppe_keys.specs.declared.Role.{Role}
 use Rattle.mppe_keys.specs.declared.Direction.{Direction}
@@ -38,3 +40,7 @@ keyChangesAnswer s start session n = keyAnswer (twoCode (keyLength s) start (key
 -- keys in 16 places, of which the first are read
 unfoldable pub placedChanges : (s : Strength) (start session : List ℕ) (n : ℕ) → List ℕ
 placedChanges s start session n = placed (changes s (take (keyLength s) start) n (take (keyLength s) session))
+
+-- RC4 freshly keyed with such a session key
+unfoldable pub placedCipher : (s : Strength) (session : List ℕ) → Rc4
+placedCipher s session = keySchedule (take (keyLength s) session)

@@ -6,7 +6,7 @@ ghost use lib.ListN.{length, take, drop, replicate};
 ghost use Rattle.octets.specs.Octets.{written, longestText};
 ghost use Rattle.sha1.specs.Sha1.{sha1 as digestOf};
 ghost use Rattle.mppe_keys.specs.Keys.{keyLength, magic1, fromClient, phrase, keyText, headOf, begins, reduced, rc4, changes, placed as placedKey};
-ghost use Rattle.mppe_keys.specs.Answers.{masterKeyAnswer, startKeyAnswer, newKeyAnswer, initialKeyAnswer, reduceAnswer, keyChangeAnswer, keyChangesAnswer, placedChanges};
+ghost use Rattle.mppe_keys.specs.Answers.{masterKeyAnswer, startKeyAnswer, newKeyAnswer, initialKeyAnswer, reduceAnswer, keyChangeAnswer, keyChangesAnswer, placedChanges, placedCipher};
 ghost use Rattle.mppe_keys.specs.Inner.{refusedKey, Changed};
 use octets::copy;
 use octets::copy_at;
@@ -186,6 +186,15 @@ pub fn placed_key_changes(
 {
     let k = key_octets(strength);
     changed(strength, &start[..k], &session[..k], n)
+}
+
+// RC4 freshly keyed with a session key in 16 places, of which only the first of the strength's octets are read.
+pub fn placed_cipher(strength: Strength, session: [u8; 16]) -> Rc4
+    ensures { λ r. ⌜ r ≡ placedCipher strength session ⌝ }
+{
+    let octets = key_octets(strength);
+    let keyed = Rc4::keyed(&session[..octets]);
+    keyed.state
 }
 
 // How many octets a key has, with the bounds that indices rest on.
