@@ -9,12 +9,42 @@ use lib.ListN.{length}
 use borrow.Author.Tests.{lt-ltb, le-ltb, ltb-false, eq-eqb, ne-eqb, eqb-true}
 use Rattle.answer.specs.Answer.{done, size, pick, outside, wrong, firstOf, onDone}
 
--- a row that applies gives its number, and one that does not leaves it to those behind it
-pub stops : (t : Bool) (n rest : ℕ) → t ≡ true → n ≡ pick t n rest
-stops t n rest e = rw e
+-- a table while its rows are looked at in turn: the number that it gives, and the rows behind those that do not apply
+pub record Passed : Type 0 where
+  pub code : ℕ
+  pub left : List (ℕ × Bool)
+  pub same : firstOf left ≡ code
 
-pub passes : (t : Bool) (n rest : ℕ) {code : ℕ} → t ≡ false → code ≡ rest → code ≡ pick t n rest
-passes t n rest e same = rw e same
+abbrev pub table : (code : ℕ) (rows : List (ℕ × Bool)) → firstOf rows ≡ code → Passed
+table code rows e = record { code = code; left = rows; same = e }
+
+-- the next row: its number, whether it applies, and the rows behind it
+abbrev pub number : List (ℕ × Bool) → ℕ
+number [] = done
+number (row ∷ rows) = row .0
+
+abbrev pub applies : List (ℕ × Bool) → Bool
+applies [] = false
+applies (row ∷ rows) = row .1
+
+abbrev pub behind : List (ℕ × Bool) → List (ℕ × Bool)
+behind [] = []
+behind (row ∷ rows) = rows
+
+-- one that does not apply is passed, and one that does gives its number
+abbrev pub pass : (p : Passed) → applies (p .left) ≡ false → Passed
+pass p e = table (p .code) (behind (p .left)) (go (p .left) e ∙ p .same)
+  where
+    go : (rows : List (ℕ × Bool)) → applies rows ≡ false → firstOf (behind rows) ≡ firstOf rows
+    go [] e = refl
+    go (row ∷ rows) e = rw e
+
+pub stop : (p : Passed) → applies (p .left) ≡ true → number (p .left) ≡ p .code
+stop p e = go (p .left) e ∙ p .same
+  where
+    go : (rows : List (ℕ × Bool)) → applies rows ≡ true → number rows ≡ firstOf rows
+    go [] e = refl
+    go (row ∷ rows) e = rw e
 
 -- all numbers of these rows are refusals
 abbrev pub refusals : List (ℕ × Bool) → Bool
@@ -91,10 +121,10 @@ right-length n input e = eqb-true (length input) n (go (eqb (length input) n) e)
 
 -- its row
 pub row-wrong : (n : ℕ) (input : List ℕ) (rest : ℕ) → (length input ≡ n → ⊥) → size ≡ pick (wrong n input) size rest
-row-wrong n input rest h = stops (wrong n input) size rest (not-right n input h)
+row-wrong n input rest h = rw (not-right n input h)
 
 pub row-right : {code : ℕ} (n : ℕ) (input : List ℕ) (rest : ℕ) → length input ≡ n → code ≡ rest → code ≡ pick (wrong n input) size rest
-row-right n input rest h e = passes (wrong n input) size rest (right n input h) e
+row-right n input rest h e = rw (right n input h) e
 
 pub not-size : size ≡ done → ⊥
 not-size e = suc-ne-zero 2 e

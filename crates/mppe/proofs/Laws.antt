@@ -26,7 +26,7 @@ use Rattle.mppe.specs.declared.Link.{Link}
 use Rattle.mppe.specs.declared.Outcome.{Outcome}
 use Rattle.mppe.specs.Link.{shortestPlain, longestPlain, front, counts, newCount, zeros, wellFormed, startKeyIn, sessionKeyIn, renewed, newLink, newLinkCode, offProtocol, bitA, bitD, header, sealedPacket, headerIn, dataIn, countOf, lacks, Result, refusal}
 use Rattle.mppe.specs.Link.{plainRows, nextCount, nextKey, sealCode, sealResult, changesFor, keyFor, plainFor, linkAfter, frontRows, headerRows, dataRows, openCode, openResult}
-use Rattle.mppe.specs.Inner.{frontCode, headerCode, dataResult}
+use Rattle.mppe.specs.Inner.{frontCode, roomRows, headerCode, dataResult}
 use Rattle.mppe.specs.Laws.{both, key-back}
 
 -- one place more that is 0, one that is not, and the end of the places
@@ -242,7 +242,7 @@ pub data-refused : {code far : ℕ} {r : Outcome} (l : Link) (h : ℕ) (text out
     → code ≡ headerCode h far (length text) (length out) → (code ≡ done → ⊥) → r ≡ refusal code l [] .outcome → Gives r out (dataResult l h text out)
 unfolding dataResult headerCode
 data-refused {code} l h text out ef e some er =
-    let rows : List (ℕ × Bool) = headerRows l h ++ ((room, ltb (length out) (length text)) ∷ []) in
+    let rows : List (ℕ × Bool) = roomRows h (changesFor l h) (length text) (length out) in
     let last : List (ℕ × Bool) = (protocol, offProtocol (plainFor l h text)) ∷ [] in
     let e′ : code ≡ firstOf rows = e ∙ rw ef in
     refused-is _ (firstOf (rows ++ last)) l out (e′ ∙ sym (rows-stop rows last λ z. some (e′ ∙ z))) some er
@@ -253,7 +253,7 @@ pub data-passed : {code : ℕ} (far : ℕ) (l : Link) (h : ℕ) (text : List ℕ
     × (far ≡ changesFor l h → firstOf (headerRows l h ++ dataRows l h text lent) ≡ firstOf ((protocol, offProtocol (plainFor l h text)) ∷ []))
 unfolding headerCode
 data-passed far l h text lent e z =
-    let rows : List (ℕ × Bool) = (flags, lacks bitA h) ∷ (flags, lacks bitD h) ∷ (repeat, eqb far 0) ∷ (room, ltb lent (length text)) ∷ [] in
+    let rows : List (ℕ × Bool) = roomRows h far (length text) lent in
     let last : List (ℕ × Bool) = (protocol, offProtocol (plainFor l h text)) ∷ [] in
     let zero = sym e ∙ z in
     (eqb-false far 0 (clear repeat rows refl zero .0), ltb-false lent (length text) (clear room rows refl zero .0), λ ef. rw (← ef) (rows-pass rows last refl zero))

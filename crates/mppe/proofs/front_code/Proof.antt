@@ -2,39 +2,40 @@ use borrow.Author.Needs.{needs}
 use mathlib.Core.Path.{refl, sym, ap, _∙_}
 use mathlib.Core.Bool.{not}
 use borrow.Author.Tests.{eq-eqb, ne-eqb}
-use Rattle.answer.specs.Laws.{stops, passes, outside-low, outside-high, outside-none}
+use Rattle.answer.specs.Laws.{Passed, table, pass, stop, outside-low, outside-high, outside-none}
+use Rattle.mppe.specs.Link.{longestPlain, frontRows}
 use Rattle.mppe.specs.Inner.{frontCode}
 use Rattle.mppe.proofs.Laws.{opposite}
 use Rattle.mppe.proofs.front_code.Statement.{statement}
 use Rattle.mppe.proofs.front_code.Tie as tie
-use Rattle.mppe.proofs.front_code.Reads as reads
-use Rattle.mppe.proofs.front_code.Lts as lts
-use Rattle.mppe.proofs.well_formed.Reads as well-formed-reads
-use Rattle.octets.proofs.pair.Reads as pair-reads
+
+-- the table behind each row that is passed
+abbrev whole : tie.Start → Passed
+whole s = let a = s .args in table (frontCode longestPlain (a .link) (a .packet .now)) (frontRows longestPlain (a .link) (a .packet .now)) (unfold frontCode in refl)
+
+abbrev formed : tie.Else1 → Passed
+formed c = pass (whole (c .before .before .before)) (opposite (c .before .well-formed .ensures) (c .if1 .left))
+
+abbrev sized : tie.Else3 → Passed
+sized c = pass (formed (c .before .before)) (outside-none _ _ _ (c .before .if2 .left) (c .if3 .left))
 
 well-formed-requires : tie.Need-well-formed-requires
 well-formed-requires c κs = search needs
 
 returns : tie.Need-returns
-unfolding frontCode
-returns c = stops _ _ _ (opposite (c .before .well-formed .ensures) (c .if1 .taken))
+returns c = stop (whole (c .before .before .before)) (opposite (c .before .well-formed .ensures) (c .if1 .taken))
 
 add-if2 : tie.Need-add-if2
 add-if2 c = search needs
 
 returns-2 : tie.Need-returns-2
-unfolding frontCode
-returns-2 c = let formed = c .before in
-    passes _ _ _ (opposite (formed .before .well-formed .ensures) (formed .if1 .left)) (stops _ _ _ (outside-low _ _ _ (c .if2 .taken)))
+returns-2 c = stop (formed (c .before)) (outside-low _ _ _ (c .if2 .taken))
 
 add-if3 : tie.Need-add-if3
 add-if3 c = search needs
 
 returns-3 : tie.Need-returns-3
-unfolding frontCode
-returns-3 c = let long = c .before in
-    let formed = long .before in
-    passes _ _ _ (opposite (formed .before .well-formed .ensures) (formed .if1 .left)) (stops _ _ _ (outside-high _ _ _ (long .if2 .left) (c .if3 .taken)))
+returns-3 c = stop (formed (c .before .before)) (outside-high _ _ _ (c .before .if2 .left) (c .if3 .taken))
 
 shared-slice-read-pair : tie.Need-shared-slice-read-pair
 shared-slice-read-pair c = search needs
@@ -46,20 +47,12 @@ pair-requires : tie.Need-pair-requires
 pair-requires c κs = search needs
 
 returns-4 : tie.Need-returns-4
-unfolding frontCode
-returns-4 c = let short = c .before .before .before .before in
-    let long = short .before in
-    let formed = long .before in
-    passes _ _ _ (opposite (formed .before .well-formed .ensures) (formed .if1 .left))
-    (passes _ _ _ (outside-none _ _ _ (long .if2 .left) (short .if3 .left)) (stops _ _ _ (ap not (ne-eqb _ _ λ z. c .if4 .taken (c .before .pair .ensures ∙ z)))))
+returns-4 c = let read = c .before in
+    stop (sized (read .before .before .before)) (ap not (ne-eqb _ _ λ z. c .if4 .taken (read .pair .ensures ∙ z)))
 
 returns-5 : tie.Need-returns-5
-unfolding frontCode
-returns-5 c = let short = c .before .before .before .before in
-    let long = short .before in
-    let formed = long .before in
-    passes _ _ _ (opposite (formed .before .well-formed .ensures) (formed .if1 .left))
-    (passes _ _ _ (outside-none _ _ _ (long .if2 .left) (short .if3 .left)) (passes _ _ _ (ap not (eq-eqb _ _ (sym (c .before .pair .ensures) ∙ c .if4 .left))) refl))
+returns-5 c = let read = c .before in
+    pass (sized (read .before .before .before)) (ap not (eq-eqb _ _ (sym (read .pair .ensures) ∙ c .if4 .left))) .same
 
 pub front-code-spec : {M : Type 1} → statement M
 front-code-spec =

@@ -1,37 +1,37 @@
-use borrow.Author.Needs.{needs}
 use mathlib.Core.Path.{refl}
 use borrow.Author.Tests.{eq-eqb, ne-eqb, lt-ltb, le-ltb}
-use Rattle.answer.specs.Laws.{stops, passes}
-use Rattle.mppe.specs.Inner.{headerCode}
+use Rattle.answer.specs.Laws.{Passed, table, pass, stop}
+use Rattle.mppe.specs.Inner.{roomRows, headerCode}
 use Rattle.mppe.proofs.header_code.Statement.{statement}
 use Rattle.mppe.proofs.header_code.Tie as tie
-use Rattle.mppe.proofs.header_code.Reads as reads
-use Rattle.mppe.proofs.header_code.Lts as lts
+
+-- the table behind each row that is passed
+abbrev whole : tie.Start → Passed
+whole s = let a = s .args in table (headerCode (a .header) (a .distance) (a .length) (a .room)) (roomRows (a .header) (a .distance) (a .length) (a .room)) (unfold headerCode in refl)
+
+abbrev has-A : tie.Else1 → Passed
+has-A c = pass (whole (c .before)) (ne-eqb _ _ (c .if1 .left))
+
+abbrev has-D : tie.Else2 → Passed
+has-D c = pass (has-A (c .before)) (ne-eqb _ _ (c .if2 .left))
+
+abbrev new : tie.Else3 → Passed
+new c = pass (has-D (c .before)) (ne-eqb _ _ (c .if3 .left))
 
 returns : tie.Need-returns
-unfolding headerCode
-returns c = stops _ _ _ (eq-eqb _ _ (c .if1 .taken))
+returns c = stop (whole (c .before)) (eq-eqb _ _ (c .if1 .taken))
 
 returns-2 : tie.Need-returns-2
-unfolding headerCode
-returns-2 c = passes _ _ _ (ne-eqb _ _ (c .before .if1 .left)) (stops _ _ _ (eq-eqb _ _ (c .if2 .taken)))
+returns-2 c = stop (has-A (c .before)) (eq-eqb _ _ (c .if2 .taken))
 
 returns-3 : tie.Need-returns-3
-unfolding headerCode
-returns-3 c = let a = c .before in
-    passes _ _ _ (ne-eqb _ _ (a .before .if1 .left)) (passes _ _ _ (ne-eqb _ _ (a .if2 .left)) (stops _ _ _ (eq-eqb _ _ (c .if3 .taken))))
+returns-3 c = stop (has-D (c .before)) (eq-eqb _ _ (c .if3 .taken))
 
 returns-4 : tie.Need-returns-4
-unfolding headerCode
-returns-4 c = let new = c .before in
-    let a = new .before in
-    passes _ _ _ (ne-eqb _ _ (a .before .if1 .left)) (passes _ _ _ (ne-eqb _ _ (a .if2 .left)) (passes _ _ _ (ne-eqb _ _ (new .if3 .left)) (stops _ _ _ (lt-ltb _ _ (c .if4 .taken)))))
+returns-4 c = stop (new (c .before)) (lt-ltb _ _ (c .if4 .taken))
 
 returns-5 : tie.Need-returns-5
-unfolding headerCode
-returns-5 c = let new = c .before in
-    let a = new .before in
-    passes _ _ _ (ne-eqb _ _ (a .before .if1 .left)) (passes _ _ _ (ne-eqb _ _ (a .if2 .left)) (passes _ _ _ (ne-eqb _ _ (new .if3 .left)) (passes _ _ _ (le-ltb _ _ (c .if4 .left)) refl)))
+returns-5 c = pass (new (c .before)) (le-ltb _ _ (c .if4 .left)) .same
 
 pub header-code-spec : {M : Type 1} → statement M
 header-code-spec = tie.close (tie.spec returns returns-2 returns-3 returns-4 returns-5)
