@@ -54,11 +54,15 @@ copy-at-requires : tie.Need-copy-at-requires
 copy-at-requires c κs = search needs
 
 returns : tie.Need-returns
-returns c = let a = c .before .before .before .before .before .before .before .before .before .before .args in
+returns c = let put = c .before in
+    let counted = put .before .before .before in
+    let copied = counted .before .before in
+    let lent = copied .before .before in
+    let a = lent .before .before .args in
     let m = now (a .m) in
     let rest = length m % 64 in
     let len = rest + 9 + (119 - rest) % 64 in
-    tail-is (a .order) m (a .bits) rest (length m - rest) (len - 8) len (c .before .before .before .before .before .before .copy .ensures) (c .before .before .before .before .long-octets .ensures) (c .before .copy-at .ensures) refl refl (omega arith) (omega arith)
+    tail-is (a .order) m (a .bits) rest (length m - rest) (len - 8) len (copied .copy .ensures) (counted .long-octets .ensures) (put .copy-at .ensures) refl refl (omega arith) (omega arith)
 
 pub padded-tail-spec : {M : Type 1} → statement M
 padded-tail-spec =

@@ -46,7 +46,8 @@ returns : tie.Need-returns
 returns c = let wide2 = c .before in
     let wide = wide2 .before in
     let iterate = wide .before in
-    let permute-initial = iterate .before .before .before .before .before in
+    let lent = iterate .before .before .before in
+    let permute-initial = lent .before .before in
     enciphered-is _ _ _ _ _ _ _ (permute-initial .permute-initial .ensures) (iterate .iterate .ensures) (wide .wide .ensures) (wide2 .wide2 .ensures) (c .permute-inverse .ensures)
 
 pub encipher-spec : {M : Type 1} → statement M

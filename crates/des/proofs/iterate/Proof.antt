@@ -68,12 +68,15 @@ loop-again c =
     let d = chosen .before in
     let c′ = d .before in
     let told = c′ .before in
-    let l = told .before .before .loop in
-    let begun = told .before .before .before .before .before .before .before .before .before in
+    let turn = told .before .before in
+    let l = turn .loop in
+    let halved = turn .before .before in
+    let tables = halved .before .before .before in
+    let s = tables .before .before in
     let ec = shift-more choice1C _ (l .n) _ _ _ (l .inv .3) (told .shifts-of .ensures .0) (c′ .shift-left .ensures .0) in
     let ed = shift-more choice1D _ (l .n) _ _ _ (l .inv .4) (told .shifts-of .ensures .0) (d .shift-left2 .ensures .0) in
-    let front = chosen .choose-2 .ensures .1 28 24 (begun .pre .2) in
-    let back = c .before .choose-22 .ensures .1 0 0 (begun .pre .3) in (
+    let front = chosen .choose-2 .ensures .1 28 24 (s .pre .2) in
+    let back = c .before .choose-22 .ensures .1 0 0 (s .pre .3) in (
       omega arith,
       c′ .shift-left .ensures .1,
       d .shift-left2 .ensures .1,

@@ -25,8 +25,10 @@ same-length : tie.Need-same-length
 same-length c = search needs
 
 returns-2 : tie.Need-returns-2
-returns-2 c = let a = c .before .before .before .before .before .before .before .args in
-    copy-part (a .at) (now (a .from)) (now (a .to)) refl (c .before .before .copy .ensures) (omega arith)
+returns-2 c = let copied = c .before .before in
+    let inside = copied .before .before in
+    let a = inside .before .before .before .args in
+    copy-part (a .at) (now (a .from)) (now (a .to)) refl (copied .copy .ensures) (omega arith)
 
 pub copy-at-spec : {M : Type 1} → statement M
 copy-at-spec =

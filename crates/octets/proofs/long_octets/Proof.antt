@@ -34,10 +34,10 @@ put-words-requires-2 : tie.Need-put-words-requires-2
 put-words-requires-2 c κs = search needs
 
 returns : tie.Need-returns
-returns c = long-high _ (c .before .before .before .before .enum-told .given .1) (c .before .put-words .ensures)
+returns c = let put = c .before in long-high _ (put .before .before .before .enum-told .given .1) (put .put-words .ensures)
 
 returns-2 : tie.Need-returns-2
-returns-2 c = long-low _ (c .before .before .before .before .enum-told2 .given .1) (c .before .put-words2 .ensures)
+returns-2 c = let put = c .before in long-low _ (put .before .before .before .enum-told2 .given .1) (put .put-words2 .ensures)
 
 pub long-octets-spec : {M : Type 1} → statement M
 long-octets-spec =

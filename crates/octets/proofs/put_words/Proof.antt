@@ -46,19 +46,22 @@ loop-less : tie.Need-loop-less Inv-loop μ-loop
 loop-less c = search needs
 
 loop-again : tie.Need-loop-again Inv-loop μ-loop
-loop-again c = let l = c .before .before .before .before .before .before .before .before .loop in (
-  l .inv .0,
-  c .before .before .copy-at .kept .1 .1 .0 ∙ l .inv .1,
-  omega arith,
-  words-more _ _ _ (l .i) (l .inv .3) (c .before .before .before .before .before .word-octets .ensures) (c .before .before .copy-at .ensures) (omega arith) (omega arith),
-)
+loop-again c = let put = c .before .before in
+    let word = put .before .before .before in
+    let l = word .before .before .before .loop in (
+      l .inv .0,
+      put .copy-at .kept .1 .1 .0 ∙ l .inv .1,
+      omega arith,
+      words-more _ _ _ (l .i) (l .inv .3) (word .word-octets .ensures) (put .copy-at .ensures) (omega arith) (omega arith),
+    )
 
 same-length : tie.Need-same-length Inv-loop μ-loop
 same-length c = search needs
 
 returns-2 : tie.Need-returns-2 Inv-loop μ-loop
 returns-2 c = let l = c .before .loop in
-    let done : l .i ≡ length (now (c .before .before .before .before .before .args .words)) = omega arith in
+    let fits = c .before .before in
+    let done : l .i ≡ length (now (fits .before .before .before .args .words)) = omega arith in
     words-all _ _ _ _ (l .inv .3) done (l .inv .0)
 
 pub put-words-spec : {M : Type 1} → statement M

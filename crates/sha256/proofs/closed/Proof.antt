@@ -28,8 +28,10 @@ absorbed-requires-2 : tie.Need-absorbed-requires-2
 absorbed-requires-2 c κs = search needs
 
 returns : tie.Need-returns
-returns c = let a = c .before .before .before .before .before .before in
-    closed-by _ _ _ (a .args .prior) (now (a .args .text)) (c .before .before .before .before .absorbed .ensures) (c .before .before .before .padded-tail .ensures) (c .absorbed2 .ensures) refl (a .pre .1)
+returns c = let padded = c .before .before .before in
+    let whole = padded .before in
+    let s = whole .before .before in
+    closed-by _ _ _ (s .args .prior) (now (s .args .text)) (whole .absorbed .ensures) (padded .padded-tail .ensures) (c .absorbed2 .ensures) refl (s .pre .1)
 
 pub closed-spec : {M : Type 1} → statement M
 closed-spec =

@@ -51,8 +51,10 @@ returns c = let sum = c .before in
     let third = σ₁ .before in
     let second = third .before in
     let first = second .before .before in
-    let begun = first .before .before .before .before .before .before .before .before in
-    rounded _ _ _ (begun .pre .1) (first .add .ensures) (second .add2 .ensures) (third .add3 .ensures) (σ₁ .big-sigma .ensures) (t₁ .add4 .ensures)
+    let majority = first .before .before in
+    let chosen = majority .before .before .before in
+    let s = chosen .before .before .before in
+    rounded _ _ _ (s .pre .1) (first .add .ensures) (second .add2 .ensures) (third .add3 .ensures) (σ₁ .big-sigma .ensures) (t₁ .add4 .ensures)
     (σ₀ .big-sigma2 .ensures) (t₂ .add5 .ensures) (sum .add6 .ensures) (c .add7 .ensures)
 
 pub round-spec : {M : Type 1} → statement M
