@@ -14,7 +14,7 @@ same-length : tie.Need-same-length
 same-length c = search needs
 
 returns : tie.Need-returns
-returns c = linked (openResult longestPlain) _ _ (c .before .before .before .before .link-at .ensures) (c .before .before .open .ensures)
+returns c = let opened = c .before .before in linked (openResult longestPlain) _ _ (opened .before .before .link-at .ensures) (opened .open .ensures)
 
 pub bench-open-spec : {M : Type 1} → statement M
 bench-open-spec = tie.close (tie.spec link-at-requires open-requires same-length returns)

@@ -13,7 +13,7 @@ same-length : tie.Need-same-length
 same-length c = search needs
 
 returns : tie.Need-returns
-returns c = ran-keyed _ _ (c .before .before .before .before .before .keyed .ensures) (c .before .before .run .ensures)
+returns c = let ran = c .before .before in ran-keyed _ _ (ran .before .before .before .keyed .ensures) (ran .run .ensures)
 
 pub bench-rc4-spec : {M : Type 1} → statement M
 bench-rc4-spec = tie.close (tie.spec keyed-requires run-requires same-length returns)

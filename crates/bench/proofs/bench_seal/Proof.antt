@@ -14,7 +14,7 @@ same-length : tie.Need-same-length
 same-length c = search needs
 
 returns : tie.Need-returns
-returns c = linked (sealResult longestPlain) _ _ (c .before .before .before .before .link-at .ensures) (c .before .before .seal .ensures)
+returns c = let sealed = c .before .before in linked (sealResult longestPlain) _ _ (sealed .before .before .link-at .ensures) (sealed .seal .ensures)
 
 pub bench-seal-spec : {M : Type 1} → statement M
 bench-seal-spec = tie.close (tie.spec link-at-requires seal-requires same-length returns)

@@ -26,7 +26,10 @@ same-length : tie.Need-same-length
 same-length c = search needs
 
 returns : tie.Need-returns
-returns c = let s = c .before .before .before .before .before .before in front-put (s .args .count) _ _ (s .args .out .now) (c .before .before .copy .ensures) refl refl (s .pre .0) (s .pre .1)
+returns c = let copied = c .before .before in
+    let lent = copied .before .before in
+    let s = lent .before .before in
+    front-put (s .args .count) _ _ (s .args .out .now) (copied .copy .ensures) refl refl (s .pre .0) (s .pre .1)
 
 pub put-front-spec : {M : Type 1} → statement M
 put-front-spec =

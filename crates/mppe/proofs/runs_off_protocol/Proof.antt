@@ -23,7 +23,9 @@ off-protocol-requires : tie.Need-off-protocol-requires
 off-protocol-requires c κs = search needs
 
 returns : tie.Need-returns
-returns c = pair-runs _ _ (c .before .before .run .ensures .1) (c .off-protocol .ensures) (c .before .before .before .before .before .before .pre)
+returns c = let ran = c .before .before in
+    let lent = ran .before .before in
+    pair-runs _ _ (ran .run .ensures .1) (c .off-protocol .ensures) (lent .before .before .pre)
 
 pub runs-off-protocol-spec : {M : Type 1} → statement M
 runs-off-protocol-spec =

@@ -40,11 +40,12 @@ placed-requires : tie.Need-placed-requires
 placed-requires c κs = search needs
 
 returns : tie.Need-returns
-returns c = let changed = c .before .before .before .before in
+returns c = let lent = c .before in
+    let changed = lent .before .before .before in
     let put = changed .before .before .before in
     let measured = put .before .before in
-    let begun = measured .before .before .before in
-    key-changed _ _ _ _ _ _ (measured .key-octets .ensures .0) (put .put-key-text .ensures) (changed .change-times .ensures) (c .placed .ensures) (begun .pre .0) (begun .pre .1)
+    let s = measured .before .before .before in
+    key-changed _ _ _ _ _ _ (measured .key-octets .ensures .0) (put .put-key-text .ensures) (changed .change-times .ensures) (c .placed .ensures) (s .pre .0) (s .pre .1)
 
 pub changed-spec : {M : Type 1} → statement M
 changed-spec =

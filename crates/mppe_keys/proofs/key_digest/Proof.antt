@@ -28,8 +28,9 @@ slice-aggregate-digest-of c = count _ _ (text-room _ _ _ (c .before .before .put
 
 digest-of-requires : tie.Need-digest-of-requires
 digest-of-requires c κs = let put = c .before .before in
-    let begun = put .before .before .before .before in
-    front-short (length (now (begun .args .first)) + length (now (begun .args .second)) + 80) _ (text-room _ _ _ (put .put-key-text .ensures)) (omega (arith, begun .pre .0, begun .pre .1))
+    let zeros = put .before in
+    let s = zeros .before .before .before in
+    front-short (length (now (s .args .first)) + length (now (s .args .second)) + 80) _ (text-room _ _ _ (put .put-key-text .ensures)) (omega (arith, s .pre .0, s .pre .1))
 
 returns : tie.Need-returns
 returns c = front-hashed _ _ _ (c .before .before .before .put-key-text .ensures) (c .digest-of .ensures)

@@ -30,10 +30,12 @@ put-requires-3 c κs = search needs
 returns : tie.Need-returns
 unfolding magic1
 returns c = let phrase = c .before in
-    let second = phrase .before .before .before .before in
+    let lent = phrase .before .before in
+    let second = lent .before .before in
     let first = second .before .before .before in
-    let begun = first .before .before .before .before in
-    master-laid (replicate 67 0) (begun .args .hash .now) (begun .args .response .now) _ refl (first .put .ensures) (second .put2 .ensures) (phrase .put3 .ensures) (begun .pre .0) (begun .pre .1) refl
+    let zeros = first .before in
+    let s = zeros .before .before .before in
+    master-laid (replicate 67 0) (s .args .hash .now) (s .args .response .now) _ refl (first .put .ensures) (second .put2 .ensures) (phrase .put3 .ensures) (s .pre .0) (s .pre .1) refl
 
 pub master-text-spec : {M : Type 1} → statement M
 master-text-spec =

@@ -36,12 +36,14 @@ array-share-prefix-digest c = search needs
 slice-aggregate-placed : tie.Need-slice-aggregate-placed
 slice-aggregate-placed c = let d = c .before .key-digest .result in
     let size : length d ≡ 20 = search needs in
-    count (c .before .before .before .before .key-octets .result) d (omega arith)
+    let hashed = c .before in
+    count (hashed .before .before .before .key-octets .result) d (omega arith)
 
 placed-requires : tie.Need-placed-requires
 placed-requires c κs = let d = c .before .key-digest .result in
     let size : length d ≡ 20 = search needs in
-    omega (arith, length-take-le (c .before .before .before .before .key-octets .result) d (omega arith))
+    let hashed = c .before in
+    omega (arith, length-take-le (hashed .before .before .before .key-octets .result) d (omega arith))
 
 returns-3 : tie.Need-returns-3
 unfolding newKeyAnswer

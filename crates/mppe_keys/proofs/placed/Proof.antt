@@ -10,7 +10,7 @@ copy-requires : tie.Need-copy-requires
 copy-requires c κs = search needs
 
 returns : tie.Need-returns
-returns c = key-placed _ (c .before .copy .ensures) (c .before .before .before .before .pre)
+returns c = let copied = c .before in key-placed _ (copied .copy .ensures) (copied .before .before .before .pre)
 
 pub placed-spec : {M : Type 1} → statement M
 placed-spec = tie.close (tie.spec slice-aggregate-copy copy-requires returns)

@@ -13,8 +13,9 @@ same-length c = search needs
 
 returns : tie.Need-returns
 returns c = let copied = c .before .before in
-    let begun = copied .before .before .before .before in
-    copied .copy-at .ensures ∙ copy-fits (begun .args .at) (now (begun .args .octets)) (now (begun .args .out)) (begun .pre)
+    let lent = copied .before in
+    let s = lent .before .before .before in
+    copied .copy-at .ensures ∙ copy-fits (s .args .at) (now (s .args .octets)) (now (s .args .out)) (s .pre)
 
 pub put-spec : {M : Type 1} → statement M
 put-spec = tie.close (tie.spec copy-at-requires same-length returns)

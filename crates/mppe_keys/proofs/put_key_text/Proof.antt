@@ -32,9 +32,12 @@ same-length c = search needs
 
 returns : tie.Need-returns
 returns c = let last = c .before .before in
-    let second = last .before .before .before .before .before in
-    let zeros = second .before .before .before .before in
-    let first = zeros .before .before .before .before .before in
+    let with-second = last .before .before .before in
+    let second = with-second .before .before in
+    let with-zeros = second .before .before in
+    let zeros = with-zeros .before .before in
+    let with-first = zeros .before .before .before in
+    let first = with-first .before .before in
     text-put _ _ _ (first .put .ensures) (zeros .put2 .ensures) (second .put3 .ensures) (last .put4 .ensures)
 
 pub put-key-text-spec : {M : Type 1} → statement M

@@ -29,10 +29,14 @@ both-keys-requires-2 : tie.Need-both-keys-requires-2
 both-keys-requires-2 c κs = search needs
 
 returns-3 : tie.Need-returns-3
-returns-3 c = base-done _ _ _ (c .before .enum-told .given .1) (c .before .before .before .before .if1 .left) (c .before .before .before .if2 .left) (c .both-keys .ensures)
+returns-3 c = let told = c .before in
+    let second = told .before .before in
+    base-done _ _ _ (told .enum-told .given .1) (second .before .if1 .left) (second .if2 .left) (c .both-keys .ensures)
 
 returns-4 : tie.Need-returns-4
-returns-4 c = base-done _ _ _ (c .before .enum-told2 .given .1) (c .before .before .before .before .if1 .left) (c .before .before .before .if2 .left) (c .both-keys2 .ensures)
+returns-4 c = let told = c .before in
+    let second = told .before .before in
+    base-done _ _ _ (told .enum-told2 .given .1) (second .before .if1 .left) (second .if2 .left) (c .both-keys2 .ensures)
 
 pub base-key-spec : {M : Type 1} → statement M
 base-key-spec =

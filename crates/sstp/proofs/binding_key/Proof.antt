@@ -25,7 +25,9 @@ hmac-sha256-requires c κs = search needs
 
 returns-2 : tie.Need-returns-2
 unfolding seed
-returns-2 c = binding-done _ (c .before .before .before .before .before .if1 .left) (c .before .before .before .before .fitted .ensures) refl (c .before .hmac-sha256 .ensures)
+returns-2 c = let hashed = c .before in
+    let fitted = hashed .before .before .before in
+    binding-done _ (fitted .before .if1 .left) (fitted .fitted .ensures) refl (hashed .hmac-sha256 .ensures)
 
 pub binding-key-spec : {M : Type 1} → statement M
 binding-key-spec =

@@ -17,7 +17,11 @@ copy-at-requires : tie.Need-copy-at-requires
 copy-at-requires c κs = search needs
 
 returns : tie.Need-returns
-returns c = let s = c .before .before .before .before .before .before .before .before in pair-laid (now (s .args .first)) (now (s .args .second)) (c .before .before .before .before .copy .ensures) (c .before .copy-at .ensures) (s .pre .0) (s .pre .1)
+returns c = let second = c .before in
+    let first = second .before .before .before in
+    let zeros = first .before in
+    let s = zeros .before .before .before in
+    pair-laid (now (s .args .first)) (now (s .args .second)) (first .copy .ensures) (second .copy-at .ensures) (s .pre .0) (s .pre .1)
 
 pub both-keys-spec : {M : Type 1} → statement M
 both-keys-spec =

@@ -57,7 +57,8 @@ part-open-data-end : tie.Need-part-open-data-end
 part-open-data-end c = search needs
 
 open-data-requires : tie.Need-open-data-requires
-open-data-requires c κs = let passed = c .before .before .before .before .before in
+open-data-requires c κs = let read = c .before .before in
+    let passed = read .before .before .before in
     let judged = passed .before in
     let s = judged .before .before .before in
     let (well, low, high) = front-passed longestPlain (s .args .self) (s .args .packet .now) (judged .front-code .ensures) (passed .if1 .left) in

@@ -37,7 +37,8 @@ cipher-of-requires c κs = search needs
 
 runs-off-protocol-requires : tie.Need-runs-off-protocol-requires
 runs-off-protocol-requires c κs = let judged = c .before .before .before in
-    judged .before .before .before .before .pre .1
+    let far = judged .before in
+    far .before .before .before .pre .1
 
 refused-requires-2 : tie.Need-refused-requires-2
 refused-requires-2 c κs = search needs

@@ -48,13 +48,15 @@ cipher-of-requires c κs = search needs
 sub-run : tie.Need-sub-run
 sub-run c = let put = c .before .before .before in
     let next = put .before .before .before in
-    let s = next .before .before .before .before .before in
+    let judged = next .before .before in
+    let s = judged .before .before .before in
     omega (arith, front-long (next .next-count .result) (s .args .out .now) (put .put-front .ensures))
 
 part-run-start : tie.Need-part-run-start
 part-run-start c = let put = c .before .before .before in
     let next = put .before .before .before in
-    let s = next .before .before .before .before .before in
+    let judged = next .before .before in
+    let s = judged .before .before .before in
     omega (arith, front-long (next .next-count .result) (s .args .out .now) (put .put-front .ensures))
 
 part-run-end : tie.Need-part-run-end
