@@ -5,7 +5,7 @@ use mathlib.Core.List.{List, [], _∷_, _++_}
 use Prim.Native.Nat.{ℕ, zero, suc, _<_, _≤_}
 use native.Mathlib.Nat.{suc-ne-zero}
 use lib.Dec.{eqb, ltb}
-use lib.ListN.{length}
+use lib.ListN.{length, drop}
 use borrow.Author.Tests.{lt-ltb, le-ltb, ltb-false, eq-eqb, ne-eqb, eqb-true}
 use Rattle.answer.specs.Answer.{done, size, pick, outside, wrong, firstOf, onDone}
 
@@ -18,33 +18,21 @@ pub record Passed : Type 0 where
 abbrev pub table : (code : ℕ) (rows : List (ℕ × Bool)) → firstOf rows ≡ code → Passed
 table code rows e = record { code = code; left = rows; same = e }
 
--- the next row: its number, whether it applies, and the rows behind it
-abbrev pub number : List (ℕ × Bool) → ℕ
-number [] = done
-number (row ∷ rows) = row .0
+-- the next row, which decides unless it does not apply; behind the last there is none that applies
+abbrev pub next : List (ℕ × Bool) → ℕ × Bool
+next [] = (done, false)
+next (row ∷ rows) = row
 
-abbrev pub applies : List (ℕ × Bool) → Bool
-applies [] = false
-applies (row ∷ rows) = row .1
-
-abbrev pub behind : List (ℕ × Bool) → List (ℕ × Bool)
-behind [] = []
-behind (row ∷ rows) = rows
+pub decides : {t : Bool} (rows : List (ℕ × Bool)) → next rows .1 ≡ t → pick t (next rows .0) (firstOf (drop 1 rows)) ≡ firstOf rows
+decides [] e = rw (← e)
+decides (row ∷ rows) e = rw (← e)
 
 -- one that does not apply is passed, and one that does gives its number
-abbrev pub pass : (p : Passed) → applies (p .left) ≡ false → Passed
-pass p e = table (p .code) (behind (p .left)) (go (p .left) e ∙ p .same)
-  where
-    go : (rows : List (ℕ × Bool)) → applies rows ≡ false → firstOf (behind rows) ≡ firstOf rows
-    go [] e = refl
-    go (row ∷ rows) e = rw e
+abbrev pub pass : (p : Passed) → next (p .left) .1 ≡ false → Passed
+pass p e = table (p .code) (drop 1 (p .left)) (decides (p .left) e ∙ p .same)
 
-pub stop : (p : Passed) → applies (p .left) ≡ true → number (p .left) ≡ p .code
-stop p e = go (p .left) e ∙ p .same
-  where
-    go : (rows : List (ℕ × Bool)) → applies rows ≡ true → number rows ≡ firstOf rows
-    go [] e = refl
-    go (row ∷ rows) e = rw e
+pub stop : (p : Passed) → next (p .left) .1 ≡ true → next (p .left) .0 ≡ p .code
+stop p e = decides (p .left) e ∙ p .same
 
 -- all numbers of these rows are refusals
 abbrev pub refusals : List (ℕ × Bool) → Bool
