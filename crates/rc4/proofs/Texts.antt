@@ -1,19 +1,20 @@
 -- A whole text: the parts of a run put together, and what a run answers.
-use mathlib.Core.Path.{_≡_, _∙_}
+use mathlib.Core.Path.{_≡_, sym, _∙_}
 use mathlib.Core.List.{List, [], _++_, append-assoc, append-nil}
 use Prim.Native.Nat.{ℕ, _+_, _-_, _%_, _<_, _≤_}
 use native.Mathlib.Omega.{arith}
 use borrow.Author.Tests.{lt-ltb, le-ltb}
 use lib.ListN.{length, take, drop, length-append, length-drop, take-append-drop, drop-of-length-le}
 use lib.Seq.{take-all, take-at, drop-at, drop-drop, length-take-le}
-use Rattle.answer.specs.Answer.{room, size}
+use Rattle.answer.specs.Answer.{done, room, size}
+use Rattle.answer.specs.Laws.{not-done}
 use Rattle.octets.specs.Octets.{written, longestText}
 use Rattle.rc4.specs.declared.Rc4.{Rc4}
 use Rattle.rc4.specs.declared.Ran.{Ran}
-use Rattle.rc4.specs.Cipher.{box, run, after}
-use Rattle.rc4.specs.Inner.{wrapped}
-use Rattle.rc4.specs.Answers.{runCode, runAnswer, runOut}
-use Rattle.rc4.specs.Laws.{run-length, run-cut, after-cut}
+use Rattle.rc4.specs.Cipher.{box, rounds, keySchedule, run, after}
+use Rattle.rc4.specs.Inner.{wrapped, Finished}
+use Rattle.rc4.specs.Answers.{shortestKey, longestKey, runCode, runAnswer, runOut, applyCode, applyOut}
+use Rattle.rc4.specs.Laws.{run-length, run-cut, after-cut, apply-done}
 use Rattle.rc4.proofs.Draws.{unwrapped}
 
 -- a part from m on is what is left
@@ -51,20 +52,31 @@ module _ (s s₁ : Rc4) (text : List ℕ) (m : ℕ) (first : s₁ ≡ after s (t
       let whole : front ++ rest ≡ run s text = rw (first, ← run-cut s (take m text) (drop m text), take-append-drop) in
       rw (took, none, second, append-nil, written-cut front rest out, whole)
 
--- the same from the loops over the cells as words in place, narrowed and with their indices wrapped at the end
-pub whole-text : (s : Rc4) (text out out₁ zs c₁ : List ℕ) {words c₂ c : List ℕ} (m i j j₁ j₂ : ℕ) {i′ j′ : ℕ} → words ≡ s .cells → i ≡ s .i → j ≡ s .j
-    → out₁ ≡ written (run (wrapped words i j) (take m text)) out
-    → wrapped c₁ (i + length (take m text)) j₁ ≡ after (wrapped words i j) (take m text)
-    → zs ≡ written (run (wrapped c₁ (i + m) j₁) (take (length text - m) (drop m text))) (take (length out₁ - m) (drop m out₁))
-    → wrapped c₂ (i + m + length (take (length text - m) (drop m text))) j₂ ≡ after (wrapped c₁ (i + m) j₁) (take (length text - m) (drop m text))
-    → c ≡ c₂ → i′ ≡ (i + length text) % 256 → j′ ≡ j₂ % 256 → i < 256 → j < 256 → m ≤ length text
-    → (box c i′ j′ ≡ after s text) × (take m out₁ ++ (zs ++ drop (length out₁ - m) (drop m out₁)) ≡ written (run s text) out)
-whole-text s text out out₁ zs c₁ {c = c} m i j j₁ j₂ {i′} {j′} ec ei ej wrote₁ after₁ wrote₂ after₂ ec′ ei′ ej′ hi hj h =
+-- the same of the loops over a box in place
+pub finished-parts : {c c₁ c₂ text out out₁ zs : List ℕ} {i j j₁ j₂ : ℕ} (m : ℕ) → Finished c i j (take m text) out c₁ j₁ out₁
+    → Finished c₁ (i + m) j₁ (take (length text - m) (drop m text)) (take (length out₁ - m) (drop m out₁)) c₂ j₂ zs → m ≤ length text
+    → Finished c i j text out c₂ j₂ (take m out₁ ++ (zs ++ drop (length out₁ - m) (drop m out₁)))
+finished-parts {c} {c₁} {c₂} {text} {out} {out₁} {zs} {i} {j} {j₁} {j₂} m f g h =
+    let s = wrapped c i j in
+    let s₁ = wrapped c₁ (i + m) j₁ in
+    let size : length (take m text) ≡ m = length-take-le m text h in
+    let rest = part-rest-length m text in
+    let sum : i + m + length (take (length text - m) (drop m text)) ≡ i + length text = omega arith in
+    let first : s₁ ≡ after s (take m text) = rw size at (f .stepped) in
+    record {
+      wrote = written-parts s s₁ text m first out out₁ zs (f .wrote) (g .wrote) h;
+      stepped = after-parts s s₁ text m first (wrapped c₂ (i + length text) j₂) (rw sum at (g .stepped));
+      whole = g .whole;
+      near = omega (arith, f .near, g .near);
+    }
+
+-- a run by value, from one over its cells as words in place, narrowed and with its indices wrapped at the end
+pub whole-text : (s : Rc4) {words words′ c text out out′ : List ℕ} (i j j₁ : ℕ) {i′ j′ : ℕ} → words ≡ s .cells → i ≡ s .i → j ≡ s .j
+    → Finished words i j text out words′ j₁ out′ → c ≡ words′ → i′ ≡ (i + length text) % 256 → j′ ≡ j₁ % 256 → i < 256 → j < 256
+    → (box c i′ j′ ≡ after s text) × (out′ ≡ written (run s text) out)
+whole-text s i j j₁ ec ei ej f ec′ ei′ ej′ hi hj =
     let same = unwrapped s i j ec ei ej hi hj in
-    let sum : i + m + length (take (length text - m) (drop m text)) ≡ i + length text = omega (arith, part-rest-length m text) in
-    let first : wrapped c₁ (i + m) j₁ ≡ after s (take m text) = rw (length-take-le m text h, same) at after₁ in
-    let last : box c i′ j′ ≡ after (wrapped c₁ (i + m) j₁) (take (length text - m) (drop m text)) = rw (ec′, ei′, ej′) (rw sum at after₂) in
-    (after-parts s (wrapped c₁ (i + m) j₁) text m first (box c i′ j′) last, written-parts s (wrapped c₁ (i + m) j₁) text m first out out₁ zs (rw same at wrote₁) wrote₂ h)
+    (rw (ec′, ei′, ej′) (rw same at (f .stepped)), rw same at (f .wrote))
 
 -- a refused run answers its number, and leaves the state and the buffer as they are
 module _ (s : Rc4) (text out : List ℕ) where
@@ -79,3 +91,18 @@ module _ (s : Rc4) (text out : List ℕ) where
   no-room h short =
       let code : runCode text out ≡ room = rw (le-ltb longestText (length text) h, lt-ltb (length out) (length text) short) in
       (rw code, rw code)
+
+-- a refused key, text or buffer is left by its number
+module _ (key text out : List ℕ) where
+  pub apply-refused : {n : ℕ} → n ≡ applyCode key text out → (n ≡ done → ⊥) → (n ≡ applyCode key text out) × (out ≡ applyOut key text out)
+  unfolding applyOut
+  apply-refused e h = (e, sym (not-done (applyCode key text out) (written (run (keySchedule key) text) out) out (λ z. h (e ∙ z))))
+
+  -- what is done, from a run over the box of the key
+  pub applied : {words words′ out′ : List ℕ} {j : ℕ} → words ≡ rounds key 256 .cells → Finished words 0 0 text out words′ j out′
+      → shortestKey ≤ length key → length key ≤ longestKey → length text ≤ longestText → length text ≤ length out
+      → (done ≡ applyCode key text out) × (out′ ≡ applyOut key text out)
+  unfolding keySchedule
+  applied e f low high h fits =
+      let whole = apply-done key text out low high h fits in
+      (sym (whole .0), (rw e at (f .wrote)) ∙ sym (whole .1))

@@ -41,3 +41,12 @@ runAnswer s text out = record { answer = runCode text out; state = onDone (runCo
 -- .. and leaves the lent buffer as it was
 unfoldable pub runOut : (s : Rc4) (text out : List ℕ) → List ℕ
 runOut s text out = onDone (runCode text out) (written (run s text) out) out
+
+-- the number for a key, a text and a lent buffer
+abbrev pub applyCode : (key text out : List ℕ) → ℕ
+applyCode key text out =
+    firstOf ((size, outside shortestKey longestKey (length key)) ∷ (size, ltb longestText (length text)) ∷ (room, ltb (length out) (length text)) ∷ [])
+
+-- RC4 keyed with a key, applied to a text; a refusal leaves the lent buffer as it was
+unfoldable pub applyOut : (key text out : List ℕ) → List ℕ
+applyOut key text out = onDone (applyCode key text out) (written (run (keySchedule key) text) out) out

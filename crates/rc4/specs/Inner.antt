@@ -4,7 +4,7 @@ use mathlib.Core.List.{List, [], _∷_}
 use Prim.Native.Nat.{ℕ, _+_, _*_, _%_, _^_, _<_, _≤_}
 use lib.Bits.{bitXor}
 use lib.ListN.{length, getD}
-use Rattle.octets.specs.Octets.{written, longestText}
+use Rattle.octets.specs.Octets.{written}
 use Rattle.rc4.specs.declared.Rc4.{Rc4}
 use Rattle.rc4.specs.Cipher.{box, run, after}
 
@@ -23,12 +23,11 @@ pub record OctetCells (cells : List ℕ) : Type 0 where
   pub long : length cells ≡ 256
   pub octets : (k : ℕ) → getD cells k 0 < 256
 
--- what a loop over a text asks: a box, indices with room to be carried on, a text within its limit, a buffer with room for it
+-- what a loop over a text asks: a box, indices with room to be carried on over the text, a buffer with room for it
 pub record Ready (cells : List ℕ) (i j : ℕ) (text out : List ℕ) : Type 0 where
   pub whole : OctetCells cells
-  pub i-near : i < 2 ^ 30
-  pub j-near : j < 2 ^ 30
-  pub within : length text ≤ longestText
+  pub i-near : i + length text < 2 ^ 31
+  pub j-near : j + 255 * length text < 2 ^ 31
   pub room : length text ≤ length out
 
 -- what it ensures of the box, the next j and the buffer

@@ -13,7 +13,7 @@ use Rattle.answer.specs.Answer.{done}
 use Rattle.octets.specs.Octets.{written, longestText}
 use Rattle.rc4.specs.declared.Rc4.{Rc4}
 use Rattle.rc4.specs.Cipher.{below, swap, roundJ, round, rounds, keySchedule, nextI, nextJ, step, drawn, run, after}
-use Rattle.rc4.specs.Answers.{shortestKey, longestKey, keyedAnswer, runCode, runAnswer, runOut}
+use Rattle.rc4.specs.Answers.{shortestKey, longestKey, keyedAnswer, runCode, runAnswer, runOut, applyCode, applyOut}
 
 -- the result is as long as the text
 pub run-length : (s : Rc4) (text : List ℕ) → length (run s text) ≡ length text
@@ -113,3 +113,13 @@ unfolding runAnswer runOut
 run-done s text out h fits =
     let code : runCode text out ≡ done = rw (le-ltb longestText (length text) h, le-ltb (length out) (length text) fits) in
     (rw code, rw code)
+
+-- a key, a text and a buffer within their limits give the result
+pub apply-done : (key text out : List ℕ) → shortestKey ≤ length key → length key ≤ longestKey → length text ≤ longestText → length text ≤ length out
+    → (applyCode key text out ≡ done) × (applyOut key text out ≡ written (run (keySchedule key) text) out)
+unfolding applyOut
+apply-done key text out low high h fits =
+    let code : applyCode key text out ≡ done =
+    rw (le-ltb (length key) shortestKey low, le-ltb longestKey (length key) high, le-ltb longestText (length text) h, le-ltb (length out) (length text) fits)
+    in
+    (code, rw code)

@@ -4,7 +4,7 @@ ghost use Prim.Native.Nat.{_+_, _%_, _^_, _<_, _≤_};
 ghost use lib.ListN.{length, getD, replicate};
 ghost use Rattle.octets.specs.Octets.{written, longestText};
 ghost use Rattle.rc4.specs.Cipher.{below, swap, rounds, step, drawn, run, after};
-ghost use Rattle.rc4.specs.Answers.{keyedAnswer, drawAnswer, runAnswer, runOut};
+ghost use Rattle.rc4.specs.Answers.{keyedAnswer, drawAnswer, runAnswer, runOut, applyCode, applyOut};
 ghost use Rattle.rc4.specs.Inner.{wrapped, xors, OctetCells, Ready, Finished};
 
 // The shortest key (01, "Lengths").
@@ -43,7 +43,7 @@ impl Rc4 {
         ensures { λ r. ⌜ r ≡ keyedAnswer (now (key .entry)) ⌝ }
     {
         if SHORTEST_KEY <= key.len() && key.len() <= LONGEST_KEY {
-            let cells = key_schedule(key);
+            let cells = narrow(key_schedule(key));
             let state = Rc4 { cells, i: 0, j: 0 };
             Keyed {
                 answer: answer::DONE,
@@ -106,6 +106,28 @@ impl Rc4 {
     }
 }
 
+// RC4 keyed with a key, applied to a text, into the front of a lent buffer.
+pub fn apply(key: &[u8], text: &[u8], out: &mut [u8]) -> u8
+    ensures { λ r. ⌜ (r ≡ applyCode (now (key .entry)) (now (text .entry)) (now (out .entry)))
+        × (now (out .exit) ≡ applyOut (now (key .entry)) (now (text .entry)) (now (out .entry))) ⌝ }
+{
+    if key.len() < SHORTEST_KEY {
+        return answer::SIZE;
+    }
+    if LONGEST_KEY < key.len() {
+        return answer::SIZE;
+    }
+    if octets::LONGEST_TEXT < text.len() {
+        return answer::SIZE;
+    }
+    if out.len() < text.len() {
+        return answer::ROOM;
+    }
+    let mut words = key_schedule(key);
+    run_words(&mut words, 0, 0, text, out);
+    answer::DONE
+}
+
 // The generator lent by reference: advances in place, and returns the octet drawn.
 pub fn draw_next(g: &mut Rc4) -> u8
     ensures { λ r. ⌜ (r ≡ drawn (now (g .entry))) × (now (g .exit) ≡ step (now (g .entry))) ⌝ }
@@ -117,9 +139,9 @@ pub fn draw_next(g: &mut Rc4) -> u8
 }
 
 // The box of a key after all rounds, sixteen in each turn. j is not wrapped mod 256 between them.
-fn key_schedule(key: &[u8]) -> [u8; 256]
+fn key_schedule(key: &[u8]) -> [u32; 256]
     requires { ⌜ 1 ≤ length (now key) ⌝ }
-    ensures { λ r. ⌜ r ≡ rounds (now (key .entry)) 256 .cells ⌝ }
+    ensures { λ r. ⌜ (r ≡ rounds (now (key .entry)) 256 .cells) × OctetCells r ⌝ }
 {
     let mut cells = ascending();
     let mut place = 0;
@@ -134,7 +156,7 @@ fn key_schedule(key: &[u8]) -> [u8; 256]
         }
         i += 16;
     }
-    narrow(cells)
+    cells
 }
 
 // The numbers 0 to 255, in order.
@@ -178,14 +200,22 @@ fn run_text(state: Rc4, text: &[u8], out: &mut [u8]) -> Rc4
     let cells = state.cells;
     let mut words = widen(cells);
     let i = index(state.i);
-    let m = text.len() - text.len() % 8;
-    let j = run_eights(&mut words, i, index(state.j), &text[..m], out);
-    let end = run_ones(&mut words, i + m, j, &text[m..], &mut out[m..]);
+    let j = run_words(&mut words, i, index(state.j), text, out);
     Rc4 {
         cells: narrow(words),
         i: octet(i + text.len()),
-        j: octet(end),
+        j: octet(j),
     }
+}
+
+// Any text over a box in place; the next j, not wrapped mod 256. Whole eights, then the rest of it.
+fn run_words(cells: &mut [u32; 256], i: usize, j: usize, text: &[u8], out: &mut [u8]) -> usize
+    requires { ⌜ Ready (now cells) i j (now text) (now out) ⌝ }
+    ensures { λ r. ⌜ Finished (now (cells .entry)) i j (now (text .entry)) (now (out .entry)) (now (cells .exit)) r (now (out .exit)) ⌝ }
+{
+    let m = text.len() - text.len() % 8;
+    let next = run_eights(cells, i, j, &text[..m], out);
+    run_ones(cells, i + m, next, &text[m..], &mut out[m..])
 }
 
 // A text of whole eights over a box in place; the next j, not wrapped mod 256. The place in the box is wrapped after each eight.

@@ -1,5 +1,5 @@
 -- The box is that after i rounds in each turn of `key_schedule`, and so is j, mod 256. Of the sixteen rounds of a turn, k are done in the inner loop.
-use mathlib.Core.Path.{_≡_, _∙_}
+use mathlib.Core.Path.{_≡_}
 use Prim.Native.Nat.{_+_, _%_, _-_, _≤_}
 use native.Mathlib.Nat.{add-zero, add-assoc}
 use native.Mathlib.Omega.{arith}
@@ -67,14 +67,11 @@ loop-again c =
     let all : l .k ≡ 16 = omega arith in
     (rw all at (l .inv .0), omega arith, omega arith)
 
-narrow-requires : tie.Need-narrow-requires Inv-loop2 μ-loop2 Inv-loop μ-loop
-narrow-requires c κs = c .before .loop .inv .0 .whole
-
 returns : tie.Need-returns Inv-loop2 μ-loop2 Inv-loop μ-loop
 returns c =
-    let l = c .before .before .loop in
+    let l = c .before .loop in
     let all : l .i ≡ 256 = omega arith in
-    c .narrow .ensures ∙ (rw all at (l .inv .0 .cells-are))
+    (rw all at (l .inv .0 .cells-are), l .inv .0 .whole)
 
 pub key-schedule-spec : {M : Type 1} → statement M
 key-schedule-spec =
@@ -97,5 +94,4 @@ key-schedule-spec =
     add-i
     loop-less
     loop-again
-    narrow-requires
     returns)

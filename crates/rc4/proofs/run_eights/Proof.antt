@@ -12,7 +12,7 @@ use Rattle.rc4.proofs.run_eights.Tie as tie
 abbrev Inv-loop : tie.InvT-loop
 Inv-loop cells₀ i j text out₀ at₀ next₀ eights k₀ cells out at next k =
     Running (wrapped cells₀ i j) (wrapped cells (i + 8 * k) next) text out₀ out (8 * k)
-    × (eights ≡ length text / 8) × (k ≤ eights) × (next ≤ j + 255 * (8 * k)) × (at < 2 ^ 30) × (at % 256 ≡ (i + 8 * k) % 256)
+    × (eights ≡ length text / 8) × (k ≤ eights) × (next ≤ j + 255 * (8 * k)) × (at < 2 ^ 31) × (at % 256 ≡ (i + 8 * k) % 256)
 
 abbrev μ-loop : tie.MeasureT-loop
 μ-loop cells₀ i j text out₀ at₀ next₀ eights k₀ cells out at next k = eights - k
@@ -20,7 +20,7 @@ abbrev μ-loop : tie.MeasureT-loop
 loop-holds : tie.Need-loop-holds Inv-loop μ-loop
 loop-holds c =
     let p = c .before .before .pre .0 in
-    (begun _ _ _ _ _ (p .whole) (p .room), refl, omega arith, omega arith, p .i-near, omega arith)
+    (begun _ _ _ _ _ (p .whole) (p .room), refl, omega arith, omega arith, omega arith, omega arith)
 
 draw-eight-requires : tie.Need-draw-eight-requires Inv-loop μ-loop
 draw-eight-requires c κs = search needs

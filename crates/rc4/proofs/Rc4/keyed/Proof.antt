@@ -14,14 +14,19 @@ use Rattle.rc4.proofs.Rc4.keyed.Tie as tie
 key-schedule-requires : tie.Need-key-schedule-requires
 key-schedule-requires c κs = search needs
 
+narrow-requires : tie.Need-narrow-requires
+narrow-requires c κs = c .key-schedule .ensures .1
+
 returns : tie.Need-returns
 unfolding keySchedule
 returns c =
-    ap (λ (cells : List ℕ). record { answer = 0; state = box cells 0 0 }) (c .key-schedule .ensures)
-    ∙ sym (keyed-done _ (c .before .before .if1 .taken) (leb-true _ _ (c .before .if2 .taken)))
+    let made = c .before in
+    let high = made .before in
+    ap (λ (cells : List ℕ). record { answer = 0; state = box cells 0 0 }) (c .narrow .ensures ∙ made .key-schedule .ensures .0)
+    ∙ sym (keyed-done _ (high .before .if1 .taken) (leb-true _ _ (high .if2 .taken)))
 
 returns-2 : tie.Need-returns-2
 returns-2 c = ⊎-elim (λ w. too-long _ (w .0 .taken) (leb-false _ _ (w .1 .left))) (λ w. too-short _ (w .left)) (c .if1 .came)
 
 pub keyed-spec : {M : Type 1} → statement M
-keyed-spec = tie.close (tie.spec key-schedule-requires returns returns-2)
+keyed-spec = tie.close (tie.spec key-schedule-requires narrow-requires returns returns-2)
