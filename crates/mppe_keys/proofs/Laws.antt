@@ -14,10 +14,9 @@ use Rattle.answer.specs.Answer.{pick, oneCode, twoCode}
 use Rattle.octets.specs.Octets.{written, longestText}
 use Rattle.sha1.specs.declared.Digest.{Digest}
 use Rattle.sha1.specs.Sha1.{sha1, sha1Answer}
-use Rattle.rc4.specs.declared.Keyed.{Keyed}
 use Rattle.rc4.specs.Cipher.{keySchedule}
-use Rattle.rc4.specs.Answers.{keyedAnswer, runOut}
-use Rattle.rc4.specs.Laws.{run-length, keyed-done, run-done}
+use Rattle.rc4.specs.Answers.{applyOut}
+use Rattle.rc4.specs.Laws.{run-length, apply-done}
 use Rattle.mppe_keys.specs.declared.Strength.{Strength}
 use Rattle.mppe_keys.specs.declared.Strength.the-variants.{Bits40, Bits56, Bits128}
 use Rattle.mppe_keys.specs.declared.Role.{Role}
@@ -124,14 +123,15 @@ unfolding placed
 places-reduced s key e e′ h = e′ ∙ ap (reduced s) e ∙ reduced-front s key (replicate (16 - length key) 0) h ∙ rw (reduced-length s key h, h)
 
 -- RC4 keyed with the interim key and applied to it, reduced, in front of a buffer
-pub next-put : {k : Keyed} {out₁ out₂ : List ℕ} (s : Strength) (interim out : List ℕ) → k ≡ keyedAnswer interim → out₁ ≡ runOut (k .state) interim out
-    → out₂ ≡ reduced s out₁ → length interim ≡ keyLength s → keyLength s ≤ length out → out₂ ≡ written (reduced s (rc4 interim interim)) out
-next-put s interim out ek e₁ e₂ li h =
+pub next-put : {out₁ out₂ : List ℕ} (s : Strength) (interim out : List ℕ) → out₁ ≡ applyOut interim interim out → out₂ ≡ reduced s out₁
+    → length interim ≡ keyLength s → keyLength s ≤ length out → out₂ ≡ written (reduced s (rc4 interim interim)) out
+next-put s interim out e₁ e₂ li h =
     let next : List ℕ = rc4 interim interim in
     let size : length next ≡ keyLength s = run-length (keySchedule interim) interim ∙ li in
-    let keyed : keyedAnswer interim ≡ record { answer = 0; state = keySchedule interim } = keyed-done interim (omega (arith, key-least s)) (omega (arith, key-most s)) in
-    rw
-    (e₂, e₁, ek, keyed, run-done (keySchedule interim) interim out (omega (arith, key-most s)) (omega arith) .1, reduced-front s next (drop (length next) out) size, reduced-length s next size, size)
+    let least = key-least s in
+    let most = key-most s in
+    let applied = apply-done interim interim out (omega arith) (omega arith) (omega arith) (omega arith) in
+    rw (e₂, e₁, applied .1, reduced-front s next (drop (length next) out) size, reduced-length s next size, size)
 
 -- a text that is hashed: its length, and its parts
 padded-length : (a b : List ℕ) → length (keyText a b) ≡ length a + length b + 80

@@ -10,7 +10,7 @@ ghost use Rattle.mppe_keys.specs.Answers.{masterKeyAnswer, startKeyAnswe
 ghost use Rattle.mppe_keys.specs.Inner.{refusedKey, Changed};
 use octets::copy;
 use octets::copy_at;
-use rc4::Rc4;
+use rc4::apply;
 
 // The octets of a hash, of a master key, and of the places that every key has.
 pub const KEY_PLACES: usize = 16;
@@ -379,8 +379,6 @@ fn put_next_key(strength: Strength, interim: &[u8], out: &mut [u8])
     requires { ⌜ (length (now interim) ≡ keyLength strength) × (keyLength strength ≤ length (now out)) ⌝ }
     ensures { λ _. ⌜ now (out .exit) ≡ written (reduced strength (rc4 (now (interim .entry)) (now (interim .entry)))) (now (out .entry)) ⌝ }
 {
-    let keyed = Rc4::keyed(interim);
-    let state = keyed.state;
-    state.run(interim, out);
+    apply(interim, interim, out);
     reduce_front(strength, out);
 }

@@ -5,14 +5,12 @@ use Rattle.mppe_keys.proofs.Laws.{next-put}
 use Rattle.mppe_keys.proofs.put_next_key.Statement.{statement}
 use Rattle.mppe_keys.proofs.put_next_key.Tie as tie
 
-keyed-requires : tie.Need-keyed-requires
-keyed-requires c κs = search needs
-
-run-requires : tie.Need-run-requires
-run-requires c κs = search needs
+apply-requires : tie.Need-apply-requires
+apply-requires c κs = search needs
 
 reduce-front-requires : tie.Need-reduce-front-requires
-reduce-front-requires c κs = let begun = c .before .before .before .before .before .before .before .before .before in
+reduce-front-requires c κs = let applied = c .before .before .before in
+    let begun = applied .before .before .before .before in
     omega (arith, key-least (begun .args .strength), begun .pre .1)
 
 same-length : tie.Need-same-length
@@ -20,11 +18,10 @@ same-length c = search needs
 
 returns : tie.Need-returns
 returns c = let reduced = c .before .before in
-    let ran = reduced .before .before .before .before in
-    let keyed = ran .before .before .before in
-    let begun = keyed .before .before .before in
-    next-put _ _ _ (keyed .keyed .ensures) (ran .run .ensures .1) (reduced .reduce-front .ensures) (begun .pre .0) (begun .pre .1)
+    let lent = reduced .before .before .before in
+    let applied = lent .before in
+    let begun = applied .before .before .before .before in
+    next-put _ _ _ (applied .apply .ensures .1) (reduced .reduce-front .ensures) (begun .pre .0) (begun .pre .1)
 
 pub put-next-key-spec : {M : Type 1} → statement M
-put-next-key-spec =
-    tie.close (tie.spec keyed-requires run-requires reduce-front-requires same-length returns)
+put-next-key-spec = tie.close (tie.spec apply-requires reduce-front-requires same-length returns)
