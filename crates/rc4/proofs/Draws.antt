@@ -1,5 +1,5 @@
 -- A draw over a box in place, whose indices are not wrapped, is the draw of the definitions.
-use mathlib.Core.Path.{_≡_, refl}
+use mathlib.Core.Path.{_≡_, refl, sym, _∙_}
 use mathlib.Core.List.{List, [], _∷_}
 use Prim.Native.Nat.{ℕ, zero, suc, _+_, _%_, _<_}
 use native.Mathlib.Nat.{mod-eq-of-lt}
@@ -9,9 +9,9 @@ use lib.Seq.{getD-set-same}
 use Rattle.rc4.specs.Cipher.{box, swap, nextI, nextJ, step, drawn}
 use Rattle.rc4.specs.declared.Rc4.{Rc4}
 use Rattle.rc4.specs.declared.Drawn.{Drawn}
-use Rattle.rc4.specs.Inner.{wrapped, OctetCells}
+use Rattle.rc4.specs.Inner.{wrapped, firstCell, OctetCells}
 use Rattle.rc4.specs.Answers.{drawAnswer}
-use Rattle.rc4.proofs.Boxes.{swap-octets}
+use Rattle.rc4.proofs.Boxes.{swap-octets, stored-past}
 
 -- after a swap each of the two cells has what the other had
 swap-first : (c : List ℕ) (a b : ℕ) → a < length c → getD (swap c a b) a 0 ≡ getD c b 0
@@ -24,25 +24,41 @@ swap-first (x ∷ xs) (suc a) (suc b) h = swap-first xs a b (omega arith)
 swap-second : (c : List ℕ) (a b : ℕ) → b < length c → getD (swap c a b) b 0 ≡ getD c a 0
 swap-second c a b h = getD-set-same (set c a (getD c b 0)) b (getD c a 0) 0 (simp length-set h)
 
--- the box and the indices after a draw
-pub stepped : (c c′ : List ℕ) (i j x : ℕ) → c′ ≡ swap c ((i + 1) % 256) ((j + x) % 256) → x ≡ getD c ((i + 1) % 256) 0
-    → wrapped c′ (i + 1) (j + x) ≡ step (wrapped c i j)
-unfolding step nextI nextJ
-stepped c c′ i j x swapped read =
-    let at-i : (i % 256 + 1) % 256 ≡ (i + 1) % 256 = omega arith in
-    let at-j : (j % 256 + x) % 256 ≡ (j + x) % 256 = omega arith in
-    rw (swapped, at-i, ← read, at-j)
+-- x is the cell that a draw reads first, b the place of its second, and c′ the box that it leaves
+module _ (c c′ : List ℕ) (i j x b : ℕ) (at-b : b ≡ (j + x) % 256) (swapped : c′ ≡ swap c ((i + 1) % 256) b) (read : x ≡ firstCell c i) where
+  -- the box and the indices after it
+  pub stepped : wrapped c′ (i + 1) (j + x) ≡ step (wrapped c i j)
+  unfolding step nextI nextJ
+  stepped =
+      let at-i : (i % 256 + 1) % 256 ≡ (i + 1) % 256 = omega arith in
+      let at-j : (j % 256 + x) % 256 ≡ (j + x) % 256 = omega arith in
+      rw (swapped, at-b, at-i, ← read, at-j)
 
--- the octet of a draw
-pub drew : (c c′ : List ℕ) (i j x y : ℕ) → c′ ≡ swap c ((i + 1) % 256) ((j + x) % 256) → x ≡ getD c ((i + 1) % 256) 0 → y ≡ getD c ((j + x) % 256) 0
-    → OctetCells c → getD c′ ((y + x) % 256) 0 % 256 ≡ drawn (wrapped c i j)
-unfolding drawn
-drew c c′ i j x y swapped read-x read-y whole =
-    let long = whole .long in
-    let octet : getD c′ ((y + x) % 256) 0 < 256 = rw swapped (swap-octets c ((i + 1) % 256) ((j + x) % 256) whole .octets ((y + x) % 256)) in
-    let first = swap-first c ((i + 1) % 256) ((j + x) % 256) (omega arith) in
-    let second = swap-second c ((i + 1) % 256) ((j + x) % 256) (omega arith) in
-    rw (mod-eq-of-lt octet, ← stepped c c′ i j x swapped read-x) (rw (swapped, first, second, ← read-x, ← read-y))
+  -- its octet
+  pub drew : {y p v : ℕ} → y ≡ getD c b 0 → p ≡ (y + x) % 256 → v ≡ getD c′ p 0 → OctetCells c → v % 256 ≡ drawn (wrapped c i j)
+  unfolding drawn
+  drew {y} {p} {v} read-y at-p read-v whole =
+      let long = whole .long in
+      let octet : getD c′ p 0 < 256 = rw swapped (swap-octets c ((i + 1) % 256) b whole .octets p) in
+      let first = swap-first c ((i + 1) % 256) b (omega arith) in
+      let second = swap-second c ((i + 1) % 256) b (omega arith) in
+      rw (read-v, mod-eq-of-lt octet, ← stepped, at-p) (rw (swapped, ← at-b, first, second, ← read, ← read-y))
+
+  -- and the cell that the next draw reads first, as it was read before the swap
+  pub first-next : {n : ℕ} → n ≡ getD (set c b x) ((i + 2) % 256) 0 → n ≡ firstCell c′ (i + 1)
+  first-next {n} e =
+      let on : (i + 1 + 1) % 256 ≡ (i + 2) % 256 = omega arith in
+      e ∙ rw (on, swapped, ← read) (sym (stored-past c ((i + 1) % 256) (getD c b 0) b x ((i + 2) % 256) (λ same. omega arith)))
+
+-- a cell that is read first is an octet
+pub first-octet : {c : List ℕ} {x : ℕ} (i : ℕ) → OctetCells c → x ≡ firstCell c i → x < 256
+first-octet i whole read = rw read (whole .octets ((i + 1) % 256))
+
+-- and it is the same from a place that is the same mod 256
+pub first-same : (c : List ℕ) (i i′ : ℕ) {x : ℕ} → x ≡ firstCell c i → i % 256 ≡ i′ % 256 → x ≡ firstCell c i′
+first-same c i i′ read same =
+    let next : (i′ + 1) % 256 ≡ (i + 1) % 256 = omega arith in
+    rw next read
 
 -- a draw keeps the box's length, and its cells octets
 pub step-octets : (s : Rc4) {s′ : Rc4} → s′ ≡ step s → OctetCells (s .cells) → OctetCells (s′ .cells)

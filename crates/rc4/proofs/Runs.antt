@@ -1,7 +1,7 @@
 -- A run over a text, of which n octets are done.
 use mathlib.Core.Path.{_≡_, refl, sym, ap, _∙_}
 use mathlib.Core.List.{List, [], _∷_, _++_, append-assoc, append-nil}
-use Prim.Native.Nat.{ℕ, _+_, _*_, _<_, _≤_}
+use Prim.Native.Nat.{ℕ, _+_, _*_, _/_, _%_, _<_, _≤_}
 use native.Mathlib.Nat.{add-zero, add-assoc}
 use native.Mathlib.Numerals.{add-one}
 use native.Mathlib.Omega.{arith}
@@ -110,6 +110,10 @@ more {s} {s′} {s″} {text} {out₀} {out} {n} {v} r stepped drew h =
     let one : take 1 (drop n text) ≡ getD text n 0 ∷ [] = ap (take 1) (drop-cons text n 0 h) in
     let stored : set out n v ≡ take n out ++ ((v ∷ []) ++ drop 1 (drop n out)) = rw (drop-cons out n 0 fits) (set-split out n v fits) in
     rw stored (more-block {ys = v ∷ []} 1 r (rw (one, drew)) (rw one stepped) (step-octets s′ stepped (r .whole)) (omega arith))
+
+-- the place of the next eight, from one that is a multiple of eight
+pub eight-place : (i k : ℕ) → i % 8 ≡ 0 → (i + 8 * k) / 8 % 32 * 8 ≡ (i + 8 * k) % 256
+eight-place i k h = omega arith
 
 -- the next eight octets, from eight of keystream
 pub more-eight : {s s′ s″ : Rc4} {text out₀ out ys octets : List ℕ} {n n′ : ℕ} (k : ℕ) → Running s s′ text out₀ out n → octets ≡ run s′ (replicate 8 0)

@@ -12,7 +12,7 @@ use Rattle.octets.specs.Octets.{written, longestText}
 use Rattle.rc4.specs.declared.Rc4.{Rc4}
 use Rattle.rc4.specs.declared.Ran.{Ran}
 use Rattle.rc4.specs.Cipher.{box, rounds, keySchedule, run, after}
-use Rattle.rc4.specs.Inner.{wrapped, Finished}
+use Rattle.rc4.specs.Inner.{wrapped, Ready, Finished}
 use Rattle.rc4.specs.Answers.{shortestKey, longestKey, runCode, runAnswer, runOut, applyCode, applyOut}
 use Rattle.rc4.specs.Laws.{run-length, run-cut, after-cut, apply-done}
 use Rattle.rc4.proofs.Draws.{unwrapped}
@@ -69,6 +69,21 @@ finished-parts {c} {c₁} {c₂} {text} {out} {out₁} {zs} {i} {j} {j₁} {j₂
       whole = g .whole;
       near = omega (arith, f .near, g .near);
     }
+
+-- what a loop over the front of a text asks ..
+pub ready-front : {c text out : List ℕ} {i j : ℕ} (m : ℕ) → Ready c i j text out → m ≤ length text → Ready c i j (take m text) out
+ready-front {text = text} m r h =
+    let size = length-take-le m text h in
+    record { whole = r .whole; i-near = omega (arith, r .i-near); j-near = omega (arith, r .j-near); room = omega (arith, r .room) }
+
+-- .. and one over what is left
+pub ready-rest : {c c₁ text out out₁ : List ℕ} {i j j₁ : ℕ} (m : ℕ) → Ready c i j text out → Finished c i j (take m text) out c₁ j₁ out₁ → length out₁ ≡ length out
+    → m ≤ length text → Ready c₁ (i + m) j₁ (take (length text - m) (drop m text)) (take (length out₁ - m) (drop m out₁))
+ready-rest {text = text} {out₁ = out₁} m r f kept h =
+    let size = length-take-le m text h in
+    let left = part-rest-length m text in
+    let room = part-rest-length m out₁ in
+    record { whole = f .whole; i-near = omega (arith, r .i-near); j-near = omega (arith, r .j-near, f .near); room = omega (arith, r .room) }
 
 -- a run by value, from one over its cells as words in place, narrowed and with its indices wrapped at the end
 pub whole-text : (s : Rc4) {words words′ c text out out′ : List ℕ} (i j j₁ : ℕ) {i′ j′ : ℕ} → words ≡ s .cells → i ≡ s .i → j ≡ s .j

@@ -12,6 +12,10 @@ use Rattle.rc4.specs.Cipher.{box, run, after}
 abbrev pub wrapped : List ℕ → ℕ → ℕ → Rc4
 wrapped cells i j = box cells (i % 256) (j % 256)
 
+-- the cell that a draw from place i reads first
+abbrev pub firstCell : List ℕ → ℕ → ℕ
+firstCell cells i = getD cells ((i + 1) % 256) 0
+
 -- two lists, xored octet by octet as far as both go
 abbrev pub xors : List ℕ → List ℕ → List ℕ
 xors [] ys = []
@@ -26,8 +30,8 @@ pub record OctetCells (cells : List ℕ) : Type 0 where
 -- what a loop over a text asks: a box, indices with room to be carried on over the text, a buffer with room for it
 pub record Ready (cells : List ℕ) (i j : ℕ) (text out : List ℕ) : Type 0 where
   pub whole : OctetCells cells
-  pub i-near : i + length text < 2 ^ 31
-  pub j-near : j + 255 * length text < 2 ^ 31
+  pub i-near : i + length text < 2 ^ 30
+  pub j-near : j + 255 * length text < 2 ^ 30
   pub room : length text ≤ length out
 
 -- what it ensures of the box, the next j and the buffer

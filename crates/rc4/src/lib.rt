@@ -1,11 +1,11 @@
 // RC4: the key schedule, a draw, a run over a text, and a generator lent by reference (01, "Digests, DES and RC4").
 ghost use mathlib.Core.Path.{_≡_};
 ghost use Prim.Native.Nat.{_+_, _%_, _^_, _<_, _≤_};
-ghost use lib.ListN.{length, getD, replicate};
+ghost use lib.ListN.{length, getD, set, replicate};
 ghost use Rattle.octets.specs.Octets.{written, longestText};
 ghost use Rattle.rc4.specs.Cipher.{below, swap, rounds, step, drawn, run, after};
 ghost use Rattle.rc4.specs.Answers.{keyedAnswer, drawAnswer, runAnswer, runOut, applyCode, applyOut};
-ghost use Rattle.rc4.specs.Inner.{wrapped, xors, OctetCells, Ready, Finished};
+ghost use Rattle.rc4.specs.Inner.{wrapped, firstCell, xors, OctetCells, Ready, Finished};
 
 // The shortest key (01, "Lengths").
 pub const SHORTEST_KEY: usize = 1;
@@ -69,11 +69,12 @@ impl Rc4 {
         let cells = self.cells;
         let mut words = widen(cells);
         let i = index(self.i);
-        let d = advance(&mut words, i, index(self.j));
+        let x = first_cell(&words, i);
+        let d = advance(&mut words, i, word(self.j), x);
         let state = Rc4 {
             cells: narrow(words),
             i: octet(i + 1),
-            j: octet(d.j),
+            j: low(d.j),
         };
         Drawn {
             octet: d.octet,
@@ -173,13 +174,14 @@ fn ascending() -> [u32; 256]
 }
 
 // One round of the key schedule: the next j, and two cells swapped.
-fn mix(cells: &mut [u32; 256], i: usize, j: usize, k: u8) -> usize
-    requires { ⌜ OctetCells (now cells) × (i < 256) × (j < 2 ^ 32) ⌝ }
+fn mix(cells: &mut [u32; 256], i: usize, j: u32, k: u8) -> u32
+    requires { ⌜ OctetCells (now cells) × (i < 256) × (j < 2 ^ 31) ⌝ }
     ensures { λ r. ⌜ (r ≡ j + getD (now (cells .entry)) i 0 + k) × (r ≤ j + 510)
         × (now (cells .exit) ≡ swap (now (cells .entry)) i (r % 256)) ⌝ }
 {
-    let sum = j + cell(cells, i) + index(k);
-    swap_cells(cells, i, sum % 256);
+    let x = cell(cells, i);
+    let sum = j + x + word(k);
+    swap_cells(cells, i, x, place(sum));
     sum
 }
 
@@ -200,17 +202,35 @@ fn run_text(state: Rc4, text: &[u8], out: &mut [u8]) -> Rc4
     let cells = state.cells;
     let mut words = widen(cells);
     let i = index(state.i);
-    let j = run_words(&mut words, i, index(state.j), text, out);
+    let j = run_words(&mut words, i, word(state.j), text, out);
     Rc4 {
         cells: narrow(words),
         i: octet(i + text.len()),
-        j: octet(j),
+        j: low(j),
     }
 }
 
-// Any text over a box in place; the next j, not wrapped mod 256. Whole eights, then the rest of it.
-fn run_words(cells: &mut [u32; 256], i: usize, j: usize, text: &[u8], out: &mut [u8]) -> usize
+// Any text over a box in place; the next j, not wrapped mod 256. One octet at a time up to a place that is a multiple of eight.
+fn run_words(cells: &mut [u32; 256], i: usize, j: u32, text: &[u8], out: &mut [u8]) -> u32
     requires { ⌜ Ready (now cells) i j (now text) (now out) ⌝ }
+    ensures { λ r. ⌜ Finished (now (cells .entry)) i j (now (text .entry)) (now (out .entry)) (now (cells .exit)) r (now (out .exit)) ⌝ }
+{
+    let m = before_eights(i, text.len());
+    let next = run_ones(cells, i, j, &text[..m], out);
+    run_rest(cells, i + m, next, &text[m..], &mut out[m..])
+}
+
+// How many of n octets come before the next place that is a multiple of eight.
+fn before_eights(i: usize, n: usize) -> usize
+    ensures { λ r. ⌜ (r ≤ n) × (r < n → (i + r) % 8 ≡ 0) ⌝ }
+{
+    let m = (8 - i % 8) % 8;
+    if m < n { m } else { n }
+}
+
+// A text from a place that is a multiple of eight: whole eights, then what is left.
+fn run_rest(cells: &mut [u32; 256], i: usize, j: u32, text: &[u8], out: &mut [u8]) -> u32
+    requires { ⌜ Ready (now cells) i j (now text) (now out) × (0 < length (now text) → i % 8 ≡ 0) ⌝ }
     ensures { λ r. ⌜ Finished (now (cells .entry)) i j (now (text .entry)) (now (out .entry)) (now (cells .exit)) r (now (out .exit)) ⌝ }
 {
     let m = text.len() - text.len() % 8;
@@ -218,21 +238,21 @@ fn run_words(cells: &mut [u32; 256], i: usize, j: usize, text: &[u8], out: &mut 
     run_ones(cells, i + m, next, &text[m..], &mut out[m..])
 }
 
-// A text of whole eights over a box in place; the next j, not wrapped mod 256. The place in the box is wrapped after each eight.
-fn run_eights(cells: &mut [u32; 256], i: usize, j: usize, text: &[u8], out: &mut [u8]) -> usize
-    requires { ⌜ Ready (now cells) i j (now text) (now out) × (length (now text) % 8 ≡ 0) ⌝ }
+// A text of whole eights; the next j, not wrapped mod 256. From a multiple of eight, only the last of eight places has to be wrapped.
+fn run_eights(cells: &mut [u32; 256], i: usize, j: u32, text: &[u8], out: &mut [u8]) -> u32
+    requires { ⌜ Ready (now cells) i j (now text) (now out) × (length (now text) % 8 ≡ 0) × (0 < length (now text) → i % 8 ≡ 0) ⌝ }
     ensures { λ r. ⌜ Finished (now (cells .entry)) i j (now (text .entry)) (now (out .entry)) (now (cells .exit)) r (now (out .exit)) ⌝ }
 {
-    let mut at = i;
     let mut next = j;
+    let mut x = first_cell(cells, i);
     let eights = text.len() / 8;
     let mut k = 0;
     while k < eights {
-        let e = draw_eight(cells, at, next);
-        at = (at + 8) % 256;
-        next = e.j;
-        let octets = e.octets;
         let n = 8 * k;
+        let e = draw_eight(cells, (i + n) / 8 % 32 * 8, next, x);
+        next = e.j;
+        x = e.x;
+        let octets = e.octets;
         xor_eight(&text[n..n + 8], octets, &mut out[n..n + 8]);
         k += 1;
     }
@@ -240,14 +260,15 @@ fn run_eights(cells: &mut [u32; 256], i: usize, j: usize, text: &[u8], out: &mut
 }
 
 // Any text, an octet at a time, over a box in place; the next j, not wrapped mod 256.
-fn run_ones(cells: &mut [u32; 256], i: usize, j: usize, text: &[u8], out: &mut [u8]) -> usize
+fn run_ones(cells: &mut [u32; 256], i: usize, j: u32, text: &[u8], out: &mut [u8]) -> u32
     requires { ⌜ Ready (now cells) i j (now text) (now out) ⌝ }
     ensures { λ r. ⌜ Finished (now (cells .entry)) i j (now (text .entry)) (now (out .entry)) (now (cells .exit)) r (now (out .exit)) ⌝ }
 {
     let mut next = j;
     let mut n = 0;
     while n < text.len() {
-        let d = advance(cells, i + n, next);
+        let x = first_cell(cells, i + n);
+        let d = advance(cells, i + n, next, x);
         next = d.j;
         out[n] = text[n] ^ d.octet;
         n += 1;
@@ -255,73 +276,113 @@ fn run_ones(cells: &mut [u32; 256], i: usize, j: usize, text: &[u8], out: &mut [
     next
 }
 
-// Eight octets of keystream, and the next j, not wrapped mod 256.
+// Eight octets of keystream, the next j, not wrapped mod 256, and the cell that the next draw reads first.
 struct Eight {
     octets: [u8; 8],
-    j: usize,
+    j: u32,
+    x: u32,
 }
 
 // Eight draws over a box in place: what a text of eight zeros gives.
-fn draw_eight(cells: &mut [u32; 256], i: usize, j: usize) -> Eight
-    requires { ⌜ OctetCells (now cells) × (i < 2 ^ 31) × (j < 2 ^ 31) ⌝ }
+fn draw_eight(cells: &mut [u32; 256], i: usize, j: u32, x: u32) -> Eight
+    requires { ⌜ OctetCells (now cells) × (i < 2 ^ 31) × (j < 2 ^ 30) × (x ≡ firstCell (now cells) i) ⌝ }
     ensures { λ r. ⌜ (r .octets ≡ run (wrapped (now (cells .entry)) i j) (replicate 8 0))
         × (wrapped (now (cells .exit)) (i + 8) (r .j) ≡ after (wrapped (now (cells .entry)) i j) (replicate 8 0))
-        × OctetCells (now (cells .exit)) × (r .j ≤ j + 2040) ⌝ }
+        × OctetCells (now (cells .exit)) × (r .j ≤ j + 2040) × (r .x ≡ firstCell (now (cells .exit)) (i + 8)) ⌝ }
 {
     let mut octets = [0u8; 8];
     let mut next = j;
+    let mut first = x;
     let mut k = 0;
     while k < 8 {
-        let d = advance(cells, i + k, next);
+        let d = advance(cells, i + k, next, first);
         octets[k] = d.octet;
         next = d.j;
+        first = d.x;
         k += 1;
     }
-    Eight { octets, j: next }
+    Eight {
+        octets,
+        j: next,
+        x: first,
+    }
 }
 
-// Eight octets of text, xored with eight of keystream.
+// Eight octets of text, xored with eight of keystream. All are read before one is stored: then one load and one store do it.
 fn xor_eight(text: &[u8], octets: [u8; 8], out: &mut [u8])
     requires { ⌜ (length (now text) ≡ 8) × (length (now out) ≡ 8) ⌝ }
     ensures { λ _. ⌜ now (out .exit) ≡ xors (now (text .entry)) octets ⌝ }
 {
+    let mut both = [0u8; 8];
     let mut k = 0;
     while k < 8 {
-        out[k] = text[k] ^ octets[k];
+        both[k] = text[k] ^ octets[k];
+        k += 1;
+    }
+    put_eight(&both, out);
+}
+
+// Eight octets into a buffer of eight.
+fn put_eight(octets: &[u8; 8], out: &mut [u8])
+    requires { ⌜ (length (now octets) ≡ 8) × (length (now out) ≡ 8) ⌝ }
+    ensures { λ _. ⌜ now (out .exit) ≡ now (octets .entry) ⌝ }
+{
+    let mut k = 0;
+    while k < 8 {
+        out[k] = octets[k];
         k += 1;
     }
 }
 
-// The octet of a draw in place, and the next j, not wrapped mod 256.
+// The octet of a draw in place, the next j, not wrapped mod 256, and the cell that the next draw reads first.
 struct Advanced {
     octet: u8,
-    j: usize,
+    j: u32,
+    x: u32,
 }
 
-// One draw over a box in place. j is wrapped mod 256 only to index the box: that keeps the chain from draw to draw short.
-fn advance(cells: &mut [u32; 256], i: usize, j: usize) -> Advanced
-    requires { ⌜ OctetCells (now cells) × (i < 2 ^ 32) × (j < 2 ^ 32) ⌝ }
+// One draw over a box in place; x is the cell that it reads first. The next draw's is read before the swap, and need not wait for it.
+fn advance(cells: &mut [u32; 256], i: usize, j: u32, x: u32) -> Advanced
+    requires { ⌜ OctetCells (now cells) × (i < 2 ^ 32) × (j < 2 ^ 31) × (x ≡ firstCell (now cells) i) ⌝ }
     ensures { λ r. ⌜ (r .octet ≡ drawn (wrapped (now (cells .entry)) i j))
-        × (wrapped (now (cells .exit)) (i + 1) (r .j) ≡ step (wrapped (now (cells .entry)) i j)) × (r .j ≤ j + 255) ⌝ }
+        × (wrapped (now (cells .exit)) (i + 1) (r .j) ≡ step (wrapped (now (cells .entry)) i j)) × (r .j ≤ j + 255)
+        × (r .x ≡ firstCell (now (cells .exit)) (i + 1)) ⌝ }
 {
     let a = (i + 1) % 256;
-    let x = cell(cells, a);
     let sum = j + x;
-    let b = sum % 256;
+    let b = place(sum);
     let y = cell(cells, b);
-    swap_cells(cells, a, b);
+    let next = cell_after(cells, (i + 2) % 256, b, x);
+    swap_cells(cells, a, x, b);
     Advanced {
-        octet: octet(cell(cells, (y + x) % 256)),
+        octet: low(cell(cells, place(y + x))),
         j: sum,
+        x: next,
     }
 }
 
-// Two cells change places.
-fn swap_cells(cells: &mut [u32; 256], a: usize, b: usize)
-    requires { ⌜ (a < 256) × (b < 256) ⌝ }
+// The cell that a draw reads first.
+fn first_cell(cells: &[u32; 256], i: usize) -> u32
+    requires { ⌜ OctetCells (now cells) × (i < 2 ^ 32) ⌝ }
+    ensures { λ r. ⌜ r ≡ firstCell (now (cells .entry)) i ⌝ }
+{
+    cell(cells, (i + 1) % 256)
+}
+
+// The cell at a place as it is once x is stored at b.
+fn cell_after(cells: &[u32; 256], at: usize, b: usize, x: u32) -> u32
+    requires { ⌜ OctetCells (now cells) × (at < 256) × (b < 256) ⌝ }
+    ensures { λ r. ⌜ r ≡ getD (set (now (cells .entry)) b x) at 0 ⌝ }
+{
+    let here = cell(cells, at);
+    if at == b { x } else { here }
+}
+
+// The cell x at a and the cell at b change places.
+fn swap_cells(cells: &mut [u32; 256], a: usize, x: u32, b: usize)
+    requires { ⌜ (a < 256) × (b < 256) × (x ≡ getD (now cells) a 0) ⌝ }
     ensures { λ _. ⌜ now (cells .exit) ≡ swap (now (cells .entry)) a b ⌝ }
 {
-    let x = cells[a];
     cells[a] = cells[b];
     cells[b] = x;
 }
@@ -353,7 +414,7 @@ fn narrow(words: [u32; 256]) -> [u8; 256]
     while n < 256 {
         let mut k = 0;
         while k < 4 {
-            cells[n + k] = octet(cell(&words, n + k));
+            cells[n + k] = low(cell(&words, n + k));
             k += 1;
         }
         n += 4;
@@ -368,12 +429,26 @@ fn word(x: u8) -> u32
     x as u32
 }
 
-// A cell as an index.
-fn cell(cells: &[u32; 256], k: usize) -> usize
+// A cell.
+fn cell(cells: &[u32; 256], k: usize) -> u32
     requires { ⌜ OctetCells (now cells) × (k < 256) ⌝ }
     ensures { λ r. ⌜ (r ≡ getD (now (cells .entry)) k 0) × (r < 256) ⌝ }
 {
-    cells[k] as usize
+    cells[k]
+}
+
+// A word mod 256, as a place in the box.
+fn place(x: u32) -> usize
+    ensures { λ r. ⌜ (r ≡ x % 256) × (r < 256) ⌝ }
+{
+    (x % 256) as usize
+}
+
+// A word mod 256.
+fn low(x: u32) -> u8
+    ensures { λ r. ⌜ r ≡ x % 256 ⌝ }
+{
+    (x % 256) as u8
 }
 
 // An octet as an index.

@@ -1,58 +1,85 @@
--- The two reads and the swap of `advance` are those of a draw: `stepped` and `drew`.
-use mathlib.Core.Path.{ap, _∙_}
-use Prim.Native.Nat.{_%_}
+-- The two reads and the swap of `advance` are those of a draw: `stepped` and `drew`. The cell that the next one reads first is `first-next`.
+use mathlib.Core.Path.{_∙_}
 use native.Mathlib.Omega.{arith}
-use borrow.Author.Needs.{needs}
 use Rattle.rc4.proofs.Boxes.{swap-octets}
-use Rattle.rc4.proofs.Draws.{stepped, drew}
+use Rattle.rc4.proofs.Draws.{stepped, drew, first-next, first-octet}
+use borrow.Author.Needs.{needs}
 use Rattle.rc4.proofs.advance.Statement.{statement}
 use Rattle.rc4.proofs.advance.Tie as tie
 
 add-a : tie.Need-add-a
 add-a c = search needs
 
+add-sum : tie.Need-add-sum
+add-sum c = let x = first-octet (c .args .i) (c .pre .0) (c .pre .3) in omega arith
+
+place-requires : tie.Need-place-requires
+place-requires c κs = search needs
+
 cell-requires : tie.Need-cell-requires
 cell-requires c κs = search needs
 
-add-sum : tie.Need-add-sum
-add-sum c = search needs
+add-cell-after : tie.Need-add-cell-after
+add-cell-after c = search needs
 
-cell-requires-2 : tie.Need-cell-requires-2
-cell-requires-2 c κs = search needs
+cell-after-requires : tie.Need-cell-after-requires
+cell-after-requires c κs = search needs
 
 swap-cells-requires : tie.Need-swap-cells-requires
 swap-cells-requires c κs = search needs
 
-add-cell : tie.Need-add-cell
-add-cell c = search needs
+add-place : tie.Need-add-place
+add-place c =
+    let swapped = c .before in
+    let after = swapped .before .before in
+    let read = after .before .before in
+    let begun = read .before .before .before in
+    let x = first-octet (begun .args .i) (begun .pre .0) (begun .pre .3) in
+    omega (arith, read .cell .ensures .1)
 
-cell-requires-3 : tie.Need-cell-requires-3
-cell-requires-3 c κs =
-    let whole = c .before .before .before .before .before .before .before .pre .0 in
-    (rw (c .before .swap-cells .ensures) (swap-octets _ _ _ whole), omega arith)
+place-requires-2 : tie.Need-place-requires-2
+place-requires-2 c κs = search needs
 
-octet-requires : tie.Need-octet-requires
-octet-requires c κs = search needs
+cell-requires-2 : tie.Need-cell-requires-2
+cell-requires-2 c κs =
+    let swapped = c .before .before in
+    let after = swapped .before .before in
+    let read = after .before .before in
+    let begun = read .before .before .before in
+    (rw (swapped .swap-cells .ensures) (swap-octets _ _ _ (begun .pre .0)), c .place2 .ensures .1)
+
+low-requires : tie.Need-low-requires
+low-requires c κs = search needs
 
 returns : tie.Need-returns
 returns c =
-    let whole = c .before .before .before .before .before .before .before .before .before .pre .0 in
-    let x = c .before .before .before .before .before .before .before .cell .ensures in
-    let y = c .before .before .before .before .before .cell2 .ensures in
-    let swapped = c .before .before .before .swap-cells .ensures in
-    let z = c .before .cell3 .ensures in
-    (c .octet .ensures ∙ ap (λ v. v % 256) (z .0) ∙ drew _ _ _ _ _ _ swapped (x .0) (y .0) whole, stepped _ _ _ _ _ swapped (x .0), omega arith)
+    let drawn = c .before in
+    let at = drawn .before in
+    let swapped = at .before .before in
+    let after = swapped .before .before in
+    let read = after .before .before in
+    let placed = read .before .before in
+    let begun = placed .before in
+    let cells = begun .args .cells .now in
+    let p = begun .pre in
+    let b = placed .place .ensures .0 in
+    let made = swapped .swap-cells .ensures in
+    let x = first-octet (begun .args .i) (p .0) (p .3) in
+    (c .low .ensures ∙ drew _ _ _ _ _ _ b made (p .3) (read .cell .ensures .0) (at .place2 .ensures .0) (drawn .cell2 .ensures .0) (p .0), stepped _ _ _ _ _ _ b made (p .3), omega arith, first-next cells _ _ _ _ _ b made (p .3) (after .cell-after .ensures))
 
 pub advance-spec : {M : Type 1} → statement M
 advance-spec =
     tie.close
     (tie.spec
     add-a
-    cell-requires
     add-sum
-    cell-requires-2
+    place-requires
+    cell-requires
+    add-cell-after
+    cell-after-requires
     swap-cells-requires
-    add-cell
-    cell-requires-3
-    octet-requires
+    add-place
+    place-requires-2
+    cell-requires-2
+    low-requires
     returns)

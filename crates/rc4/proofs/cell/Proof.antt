@@ -1,6 +1,5 @@
 -- A cell of a box of octets is an octet.
 use mathlib.Core.Path.{refl}
-use native.Mathlib.Omega.{arith}
 use borrow.Author.Needs.{needs}
 use Rattle.rc4.proofs.cell.Statement.{statement}
 use Rattle.rc4.proofs.cell.Tie as tie
@@ -11,11 +10,8 @@ mul-result c = search needs
 element-copy-out-result : tie.Need-element-copy-out-result
 element-copy-out-result c = search needs
 
-cast-result : tie.Need-cast-result
-cast-result c = omega (arith, c .before .pre .0 .octets (c .before .args .k))
-
 returns : tie.Need-returns
 returns c = (refl, c .before .pre .0 .octets (c .before .args .k))
 
 pub cell-spec : {M : Type 1} → statement M
-cell-spec = tie.close (tie.spec mul-result element-copy-out-result cast-result returns)
+cell-spec = tie.close (tie.spec mul-result element-copy-out-result returns)

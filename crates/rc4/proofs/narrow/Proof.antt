@@ -32,8 +32,8 @@ add-cell c = search needs
 cell-requires : tie.Need-cell-requires Inv-loop2 μ-loop2 Inv-loop μ-loop
 cell-requires c κs = search needs
 
-octet-requires : tie.Need-octet-requires Inv-loop2 μ-loop2 Inv-loop μ-loop
-octet-requires c κs = search needs
+low-requires : tie.Need-low-requires Inv-loop2 μ-loop2 Inv-loop μ-loop
+low-requires c κs = search needs
 
 add-cells : tie.Need-add-cells Inv-loop2 μ-loop2 Inv-loop μ-loop
 add-cells c = search needs
@@ -52,7 +52,7 @@ loop2-again c =
     let l = c .before .before .before .before .loop2 in
     let o = c .before .before .before .before .before .before in
     let w = c .before .cell .ensures in
-    (copied-more _ _ (o .loop .n) (l .k) _ (l .inv .0) (c .octet .ensures ∙ mod-eq-of-lt (w .1) ∙ w .0) (omega arith) (o .before .pre .long) (omega arith), omega arith)
+    (copied-more _ _ (o .loop .n) (l .k) _ (l .inv .0) (c .low .ensures ∙ mod-eq-of-lt (w .1) ∙ w .0) (omega arith) (o .before .pre .long) (omega arith), omega arith)
 
 add-n : tie.Need-add-n Inv-loop2 μ-loop2 Inv-loop μ-loop
 add-n c = search needs
@@ -83,7 +83,7 @@ narrow-spec =
     loop2-holds
     add-cell
     cell-requires
-    octet-requires
+    low-requires
     add-cells
     array-write-cells
     add-k

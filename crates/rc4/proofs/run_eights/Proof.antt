@@ -1,35 +1,52 @@
--- k eights of the text are done in each turn of `run_eights`, and `at` is i + 8 k, mod 256.
+-- k eights of the text are done in each turn of `run_eights`, and x is the cell that the next draw reads first.
 use mathlib.Core.Path.{_≡_, refl}
-use Prim.Native.Nat.{_+_, _*_, _/_, _%_, _-_, _^_, _≤_, _<_}
+use Prim.Native.Nat.{_+_, _*_, _/_, _%_, _-_, _≤_, _<_}
 use native.Mathlib.Omega.{arith}
 use lib.ListN.{length}
+use Rattle.rc4.specs.Inner.{wrapped, firstCell}
+use Rattle.rc4.proofs.Draws.{first-same}
+use Rattle.rc4.proofs.Runs.{Running, begun, eight-place, more-eight, finished}
 use borrow.Author.Needs.{needs}
-use Rattle.rc4.specs.Inner.{wrapped}
-use Rattle.rc4.proofs.Runs.{Running, begun, more-eight, finished}
 use Rattle.rc4.proofs.run_eights.Statement.{statement}
 use Rattle.rc4.proofs.run_eights.Tie as tie
 
 abbrev Inv-loop : tie.InvT-loop
-Inv-loop cells₀ i j text out₀ at₀ next₀ eights k₀ cells out at next k =
+Inv-loop cells₀ i j text out₀ next₀ x₀ eights k₀ cells out next x k =
     Running (wrapped cells₀ i j) (wrapped cells (i + 8 * k) next) text out₀ out (8 * k)
-    × (eights ≡ length text / 8) × (k ≤ eights) × (next ≤ j + 255 * (8 * k)) × (at < 2 ^ 31) × (at % 256 ≡ (i + 8 * k) % 256)
+    × (eights ≡ length text / 8) × (k ≤ eights) × (next ≤ j + 255 * (8 * k)) × (x ≡ firstCell cells (i + 8 * k))
 
 abbrev μ-loop : tie.MeasureT-loop
-μ-loop cells₀ i j text out₀ at₀ next₀ eights k₀ cells out at next k = eights - k
+μ-loop cells₀ i j text out₀ next₀ x₀ eights k₀ cells out next x k = eights - k
+
+first-cell-requires : tie.Need-first-cell-requires Inv-loop μ-loop
+first-cell-requires c κs = search needs
 
 loop-holds : tie.Need-loop-holds Inv-loop μ-loop
 loop-holds c =
-    let p = c .before .before .pre .0 in
-    (begun _ _ _ _ _ (p .whole) (p .room), refl, omega arith, omega arith, omega arith, omega arith)
-
-draw-eight-requires : tie.Need-draw-eight-requires Inv-loop μ-loop
-draw-eight-requires c κs = search needs
-
-add-at : tie.Need-add-at Inv-loop μ-loop
-add-at c = search needs
+    let known = c .before .before in
+    let start = known .before .before in
+    let p = start .pre .0 in
+    (begun _ _ _ _ _ (p .whole) (p .room), refl, omega arith, omega arith, first-same (start .args .cells .now) (start .args .i) _ (c .first-cell .ensures) (omega arith))
 
 mul-n : tie.Need-mul-n Inv-loop μ-loop
 mul-n c = search needs
+
+add-draw-eight : tie.Need-add-draw-eight Inv-loop μ-loop
+add-draw-eight c = search needs
+
+mul-draw-eight : tie.Need-mul-draw-eight Inv-loop μ-loop
+mul-draw-eight c = search needs
+
+draw-eight-requires : tie.Need-draw-eight-requires Inv-loop μ-loop
+draw-eight-requires c κs =
+    let turn = c .before .before in
+    let l = turn .loop in
+    let known = turn .before .before .before in
+    let start = known .before .before in
+    let i = start .args .i in
+    let h : 0 < length (start .args .text .now) = omega arith in
+    let at = eight-place i (l .k) (start .pre .2 h) in
+    (l .inv .0 .whole, omega arith, omega arith, first-same (l .cells) (i + 8 * l .k) _ (l .inv .4) (omega arith))
 
 add-xor-eight : tie.Need-add-xor-eight Inv-loop μ-loop
 add-xor-eight c = search needs
@@ -66,21 +83,29 @@ loop-less c = search needs
 
 loop-again : tie.Need-loop-again Inv-loop μ-loop
 loop-again c =
-    let o = c .before .before .before .before .before .before in
-    let l = o .before .before .before .loop in
-    let e = o .draw-eight .ensures in
-    let a = o .before .before .before .before .before .before .args in
+    let xored = c .before .before in
+    let lent = xored .before .before in
+    let drawn = lent .before .before in
+    let turn = drawn .before .before .before in
+    let l = turn .loop in
+    let known = turn .before .before .before in
+    let start = known .before .before in
+    let a = start .args in
+    let e = drawn .draw-eight .ensures in
     let n = 8 * l .k in
-    let eight : n + 8 - n ≡ 8 = omega arith in
-    let count : 8 * (l .k + 1) ≡ n + 8 = omega arith in
+    let at = (a .i + n) / 8 % 32 * 8 in
     let h : n + 8 ≤ length (a .text .now) = omega arith in
-    let on : (l .at + 8) % 256 ≡ (a .i + 8 * (l .k + 1)) % 256 = omega arith in (
-      more-eight (n + 8 - n) (l .inv .0) (rw (l .inv .5) at (e .0)) (rw (on, l .inv .5) at (e .1)) (e .2) (c .before .before .xor-eight .ensures) eight count h,
+    let some : 0 < length (a .text .now) = omega arith in
+    let placed = eight-place (a .i) (l .k) (start .pre .2 some) in
+    let same : at % 256 ≡ (a .i + n) % 256 = omega arith in
+    let on : (at + 8) % 256 ≡ (a .i + 8 * (l .k + 1)) % 256 = omega arith in
+    let eight : n + 8 - n ≡ 8 = omega arith in
+    let count : 8 * (l .k + 1) ≡ n + 8 = omega arith in (
+      more-eight (n + 8 - n) (l .inv .0) (rw same at (e .0)) (rw (on, same) at (e .1)) (e .2) (xored .xor-eight .ensures) eight count h,
       l .inv .1,
       omega arith,
       omega arith,
-      omega arith,
-      omega arith,
+      first-same (drawn .draw-eight .last .0) (at + 8) _ (e .4) on,
     )
 
 same-length : tie.Need-same-length Inv-loop μ-loop
@@ -97,10 +122,12 @@ run-eights-spec =
     (tie.spec
     Inv-loop
     μ-loop
+    first-cell-requires
     loop-holds
-    draw-eight-requires
-    add-at
     mul-n
+    add-draw-eight
+    mul-draw-eight
+    draw-eight-requires
     add-xor-eight
     sub-xor-eight
     part-xor-eight-start

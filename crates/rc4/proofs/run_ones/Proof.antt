@@ -2,23 +2,30 @@
 use mathlib.Core.Path.{ap}
 use Prim.Native.Nat.{_<_, _+_, _*_, _-_, _≤_}
 use native.Mathlib.Omega.{arith}
-use borrow.Author.Needs.{needs}
 use lib.Bits.{bitXor}
 use lib.ListN.{length, getD}
 use Rattle.rc4.specs.Inner.{wrapped}
 use Rattle.rc4.proofs.Runs.{Running, begun, more, onward, finished}
+use borrow.Author.Needs.{needs}
 use Rattle.rc4.proofs.run_ones.Statement.{statement}
 use Rattle.rc4.proofs.run_ones.Tie as tie
 
 abbrev Inv-loop : tie.InvT-loop
-Inv-loop cells₀ i j text out₀ next₀ n₀ cells out next n =
-    Running (wrapped cells₀ i j) (wrapped cells (i + n) next) text out₀ out n × (next ≤ j + 255 * n)
+Inv-loop cells₀ i j text out₀ next₀ n₀ cells out next n = Running (wrapped cells₀ i j) (wrapped cells (i + n) next) text out₀ out n × (next ≤ j + 255 * n)
 
 abbrev μ-loop : tie.MeasureT-loop
 μ-loop cells₀ i j text out₀ next₀ n₀ cells out next n = length text - n
 
 loop-holds : tie.Need-loop-holds Inv-loop μ-loop
-loop-holds c = (begun _ _ _ _ _ (c .before .before .pre .whole) (c .before .before .pre .room), omega arith)
+loop-holds c =
+    let p = c .before .before .pre in
+    (begun _ _ _ _ _ (p .whole) (p .room), omega arith)
+
+add-first-cell : tie.Need-add-first-cell Inv-loop μ-loop
+add-first-cell c = search needs
+
+first-cell-requires : tie.Need-first-cell-requires Inv-loop μ-loop
+first-cell-requires c κs = search needs
 
 add-advance : tie.Need-add-advance Inv-loop μ-loop
 add-advance c = search needs
@@ -40,9 +47,12 @@ loop-less c = search needs
 
 loop-again : tie.Need-loop-again Inv-loop μ-loop
 loop-again c =
-    let l = c .before .before .before .before .before .loop in
-    let a = c .before .before .advance .ensures in
-    let text = c .before .before .before .before .before .before .before .before .args .text .now in
+    let drawn = c .before .before in
+    let read = drawn .before .before in
+    let turn = read .before .before .before in
+    let l = turn .loop in
+    let a = drawn .advance .ensures in
+    let text = turn .before .before .before .args .text .now in
     let h : l .n < length text = omega arith in
     (more (l .inv .0) (onward _ _ _ _ _ (a .1)) (ap (bitXor (getD text (l .n) 0)) (a .0)) h, omega arith)
 
@@ -61,6 +71,8 @@ run-ones-spec =
     Inv-loop
     μ-loop
     loop-holds
+    add-first-cell
+    first-cell-requires
     add-advance
     advance-requires
     shared-slice-read-out

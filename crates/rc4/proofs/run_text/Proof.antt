@@ -10,8 +10,8 @@ widen-requires c κs = search needs
 index-requires : tie.Need-index-requires
 index-requires c κs = search needs
 
-index-requires-2 : tie.Need-index-requires-2
-index-requires-2 c κs = search needs
+word-requires : tie.Need-word-requires
+word-requires c κs = search needs
 
 run-words-requires : tie.Need-run-words-requires
 run-words-requires c κs = search needs
@@ -25,8 +25,8 @@ add-octet c = search needs
 octet-requires : tie.Need-octet-requires
 octet-requires c κs = search needs
 
-octet-requires-2 : tie.Need-octet-requires-2
-octet-requires-2 c κs = search needs
+low-requires : tie.Need-low-requires
+low-requires c κs = search needs
 
 same-length : tie.Need-same-length
 same-length c = search needs
@@ -40,8 +40,8 @@ returns c =
     let widened = i .before in
     let begun = widened .before .before .before .before in
     let hi = i .index .ensures in
-    let hj = j .index2 .ensures in
-    whole-text (begun .args .state) _ _ _ (widened .widen .ensures .0) (hi .0) (hj .0) (ran .run-words .ensures) (narrowed .narrow .ensures) (c .before .octet .ensures) (c .octet2 .ensures) (hi .1) (hj .1)
+    let hj = j .word .ensures in
+    whole-text (begun .args .state) _ _ _ (widened .widen .ensures .0) (hi .0) (hj .0) (ran .run-words .ensures) (narrowed .narrow .ensures) (c .before .octet .ensures) (c .low .ensures) (hi .1) (hj .1)
 
 pub run-text-spec : {M : Type 1} → statement M
 run-text-spec =
@@ -49,11 +49,11 @@ run-text-spec =
     (tie.spec
     widen-requires
     index-requires
-    index-requires-2
+    word-requires
     run-words-requires
     narrow-requires
     add-octet
     octet-requires
-    octet-requires-2
+    low-requires
     same-length
     returns)

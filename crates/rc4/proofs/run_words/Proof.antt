@@ -1,90 +1,82 @@
--- The whole eights and the rest of them, put together by `finished-parts`. What `run_ones` asks of the buffer rests on `run_eights` keeping its length.
-use mathlib.Core.Path.{_≡_, sym}
-use Prim.Native.Nat.{_-_, _%_}
+-- The octets before a place that is a multiple of eight and those behind it, put together by `finished-parts`.
+use mathlib.Core.Path.{sym}
 use native.Mathlib.Omega.{arith}
-use lib.ListN.{length}
-use Rattle.rc4.proofs.Texts.{eights-length, part-rest-length, finished-parts}
+use lib.Seq.{length-take-le}
+use Rattle.rc4.proofs.Texts.{part-rest-length, ready-front, ready-rest, finished-parts}
 use borrow.Author.Needs.{needs}
 use Rattle.rc4.proofs.run_words.Statement.{statement}
 use Rattle.rc4.proofs.run_words.Tie as tie
 
-sub-m : tie.Need-sub-m
-sub-m c = search needs
+before-eights-requires : tie.Need-before-eights-requires
+before-eights-requires c κs = search needs
 
-slice-aggregate-run-eights : tie.Need-slice-aggregate-run-eights
-slice-aggregate-run-eights c =
-    let known = c .before .before in
-    sym (eights-length (known .before .before .args .text .now))
-
-run-eights-requires : tie.Need-run-eights-requires
-run-eights-requires c κs =
-    let known = c .before .before .before in
-    let begun = known .before .before in
-    let size = eights-length (begun .args .text .now) in
-    let p = begun .pre in
-    (record { whole = p .whole; i-near = omega arith; j-near = omega arith; room = omega arith }, omega arith)
-
-add-run-ones : tie.Need-add-run-ones
-add-run-ones c = search needs
-
-sub-run-ones : tie.Need-sub-run-ones
-sub-run-ones c = search needs
-
-part-run-ones-start : tie.Need-part-run-ones-start
-part-run-ones-start c = search needs
-
-part-run-ones-end : tie.Need-part-run-ones-end
-part-run-ones-end c = search needs
-
-sub-run-ones-2 : tie.Need-sub-run-ones-2
-sub-run-ones-2 c = search needs
-
-part-run-ones-start-2 : tie.Need-part-run-ones-start-2
-part-run-ones-start-2 c = search needs
-
-part-run-ones-end-2 : tie.Need-part-run-ones-end-2
-part-run-ones-end-2 c = search needs
+slice-aggregate-run-ones : tie.Need-slice-aggregate-run-ones
+slice-aggregate-run-ones c =
+    let counted = c .before .before in
+    sym (length-take-le _ _ (counted .before-eights .ensures .0))
 
 run-ones-requires : tie.Need-run-ones-requires
 run-ones-requires c κs =
+    let counted = c .before .before .before in
+    let begun = counted .before .before .before in
+    ready-front _ (begun .pre) (counted .before-eights .ensures .0)
+
+add-run-rest : tie.Need-add-run-rest
+add-run-rest c = search needs
+
+sub-run-rest : tie.Need-sub-run-rest
+sub-run-rest c = search needs
+
+part-run-rest-start : tie.Need-part-run-rest-start
+part-run-rest-start c = search needs
+
+part-run-rest-end : tie.Need-part-run-rest-end
+part-run-rest-end c = search needs
+
+sub-run-rest-2 : tie.Need-sub-run-rest-2
+sub-run-rest-2 c = search needs
+
+part-run-rest-start-2 : tie.Need-part-run-rest-start-2
+part-run-rest-start-2 c = search needs
+
+part-run-rest-end-2 : tie.Need-part-run-rest-end-2
+part-run-rest-end-2 c = search needs
+
+run-rest-requires : tie.Need-run-rest-requires
+run-rest-requires c κs =
     let lent = c .before .before .before in
-    let eights = lent .before .before in
-    let known = eights .before .before .before .before in
-    let begun = known .before .before in
-    let text = begun .args .text .now in
-    let m = length text - length text % 8 in
-    let out = eights .run-eights .last .1 .1 .1 .1 .0 in
-    let kept : length out ≡ length (begun .args .out .now) = eights .run-eights .kept .1 .1 .1 .1 .0 in
-    let size = eights-length text in
-    let rest = part-rest-length m text in
-    let room = part-rest-length m out in
-    let p = begun .pre in
-    record { whole = eights .run-eights .ensures .whole; i-near = omega arith; j-near = omega (arith, eights .run-eights .ensures .near); room = omega arith }
+    let ones = lent .before .before in
+    let counted = ones .before .before .before .before in
+    let begun = counted .before .before .before in
+    let m = counted .before-eights .ensures in
+    let left = part-rest-length (counted .before-eights .result) (begun .args .text .now) in
+    (ready-rest _ (begun .pre) (ones .run-ones .ensures) (ones .run-ones .kept .1 .1 .1 .1 .0) (m .0), λ h. m .1 (omega arith))
 
 same-length : tie.Need-same-length
 same-length c = search needs
 
 returns : tie.Need-returns
 returns c =
-    let ones = c .before .before in
-    let lent = ones .before .before .before .before in
-    let eights = lent .before .before in
-    finished-parts _ (eights .run-eights .ensures) (ones .run-ones .ensures) (omega arith)
+    let rest = c .before .before in
+    let lent = rest .before .before .before .before in
+    let ones = lent .before .before in
+    let counted = ones .before .before .before .before in
+    finished-parts _ (ones .run-ones .ensures) (rest .run-rest .ensures) (counted .before-eights .ensures .0)
 
 pub run-words-spec : {M : Type 1} → statement M
 run-words-spec =
     tie.close
     (tie.spec
-    sub-m
-    slice-aggregate-run-eights
-    run-eights-requires
-    add-run-ones
-    sub-run-ones
-    part-run-ones-start
-    part-run-ones-end
-    sub-run-ones-2
-    part-run-ones-start-2
-    part-run-ones-end-2
+    before-eights-requires
+    slice-aggregate-run-ones
     run-ones-requires
+    add-run-rest
+    sub-run-rest
+    part-run-rest-start
+    part-run-rest-end
+    sub-run-rest-2
+    part-run-rest-start-2
+    part-run-rest-end-2
+    run-rest-requires
     same-length
     returns)
