@@ -49,9 +49,12 @@ loop2-less c = search needs
 
 loop2-again : tie.Need-loop2-again Inv-loop2 μ-loop2 Inv-loop μ-loop
 loop2-again c =
-    let l = c .before .before .before .before .before .loop2 in
-    let i = c .before .before .before .before .before .before .before .loop .i in
-    let m = c .before .mix .ensures in
+    let mixed = c .before in
+    let lent = mixed .before .before in
+    let turn = lent .before .before in
+    let l = turn .loop2 in
+    let i = turn .before .before .loop .i in
+    let m = mixed .mix .ensures in
     let p = c .next-place .ensures in
     (rw (add-assoc i (l .k) 1) at (mixed-more (l .inv .0) (m .0) (m .1) (m .2) (p .0) (p .1)), omega arith)
 

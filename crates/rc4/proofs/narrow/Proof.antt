@@ -49,10 +49,12 @@ loop2-less c = search needs
 
 loop2-again : tie.Need-loop2-again Inv-loop2 μ-loop2 Inv-loop μ-loop
 loop2-again c =
-    let l = c .before .before .before .before .loop2 in
-    let o = c .before .before .before .before .before .before in
-    let w = c .before .cell .ensures in
-    (copied-more _ _ (o .loop .n) (l .k) _ (l .inv .0) (c .low .ensures ∙ mod-eq-of-lt (w .1) ∙ w .0) (omega arith) (o .before .pre .long) (omega arith), omega arith)
+    let read = c .before in
+    let turn = read .before .before .before in
+    let outer = turn .before .before in
+    let l = turn .loop2 in
+    let w = read .cell .ensures in
+    (copied-more _ _ (outer .loop .n) (l .k) _ (l .inv .0) (c .low .ensures ∙ mod-eq-of-lt (w .1) ∙ w .0) (omega arith) (outer .before .pre .long) (omega arith), omega arith)
 
 add-n : tie.Need-add-n Inv-loop2 μ-loop2 Inv-loop μ-loop
 add-n c = search needs

@@ -1,5 +1,5 @@
--- The whole eights and the rest of them, put together by `finished-parts`. What `run_ones` asks of the buffer rests on `run_eights` keeping its length.
-use mathlib.Core.Path.{_≡_, sym}
+-- The whole eights and what is left, put together by `finished-parts`. What `run_ones` asks of the buffer rests on `run_eights` keeping its length.
+use mathlib.Core.Path.{sym}
 use Prim.Native.Nat.{_-_, _%_}
 use native.Mathlib.Omega.{arith}
 use lib.ListN.{length}
@@ -47,9 +47,10 @@ part-run-ones-end-2 c = search needs
 
 run-ones-requires : tie.Need-run-ones-requires
 run-ones-requires c κs =
-    let lent = c .before .before .before in
-    let eights = lent .before .before in
-    let known = eights .before .before .before .before in
+    let lent = c .before .before in
+    let eights = lent .before .before .before in
+    let taken = eights .before .before in
+    let known = taken .before .before in
     let begun = known .before .before in
     ready-rest _ (begun .pre .0) (eights .run-eights .ensures) (eights .run-eights .kept .1 .1 .1 .1 .0) (omega arith)
 
@@ -59,8 +60,8 @@ same-length c = search needs
 returns : tie.Need-returns
 returns c =
     let ones = c .before .before in
-    let lent = ones .before .before .before .before in
-    let eights = lent .before .before in
+    let lent = ones .before .before .before in
+    let eights = lent .before .before .before in
     finished-parts _ (eights .run-eights .ensures) (ones .run-ones .ensures) (omega arith)
 
 pub run-rest-spec : {M : Type 1} → statement M

@@ -38,7 +38,8 @@ returns c =
     let j = ran .before .before in
     let i = j .before .before in
     let widened = i .before in
-    let begun = widened .before .before .before .before in
+    let opened = widened .before in
+    let begun = opened .before .before .before in
     let hi = i .index .ensures in
     let hj = j .word .ensures in
     whole-text (begun .args .state) _ _ _ (widened .widen .ensures .0) (hi .0) (hj .0) (ran .run-words .ensures) (narrowed .narrow .ensures) (c .before .octet .ensures) (c .low .ensures) (hi .1) (hj .1)

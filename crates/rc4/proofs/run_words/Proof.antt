@@ -44,9 +44,10 @@ part-run-rest-end-2 c = search needs
 
 run-rest-requires : tie.Need-run-rest-requires
 run-rest-requires c κs =
-    let lent = c .before .before .before in
-    let ones = lent .before .before in
-    let counted = ones .before .before .before .before in
+    let lent = c .before .before in
+    let ones = lent .before .before .before in
+    let taken = ones .before .before in
+    let counted = taken .before .before in
     let begun = counted .before .before .before in
     let m = counted .before-eights .ensures in
     let left = part-rest-length (counted .before-eights .result) (begun .args .text .now) in
@@ -58,9 +59,10 @@ same-length c = search needs
 returns : tie.Need-returns
 returns c =
     let rest = c .before .before in
-    let lent = rest .before .before .before .before in
-    let ones = lent .before .before in
-    let counted = ones .before .before .before .before in
+    let lent = rest .before .before .before in
+    let ones = lent .before .before .before in
+    let taken = ones .before .before in
+    let counted = taken .before .before in
     finished-parts _ (ones .run-ones .ensures) (rest .run-rest .ensures) (counted .before-eights .ensures .0)
 
 pub run-words-spec : {M : Type 1} → statement M

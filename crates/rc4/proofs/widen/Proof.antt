@@ -53,12 +53,13 @@ loop2-less c = search needs
 
 loop2-again : tie.Need-loop2-again Inv-loop2 μ-loop2 Inv-loop μ-loop
 loop2-again c =
-    let l = c .before .before .loop2 in
-    let o = c .before .before .before .before in
-    let cells = o .before .args .t1 in
+    let turn = c .before .before in
+    let outer = turn .before .before in
+    let l = turn .loop2 in
+    let cells = outer .before .args .t1 in
     let q : length cells ≡ 256 = search needs in
     let w = c .word .ensures in
-    (copied-more _ _ (o .loop .n) (l .k) _ (l .inv .0) (w .0) (w .1) q (omega arith), omega arith)
+    (copied-more _ _ (outer .loop .n) (l .k) _ (l .inv .0) (w .0) (w .1) q (omega arith), omega arith)
 
 add-n : tie.Need-add-n Inv-loop2 μ-loop2 Inv-loop μ-loop
 add-n c = search needs

@@ -22,8 +22,10 @@ same-length c = search needs
 
 returns-3 : tie.Need-returns-3
 returns-3 c =
-    let r = c .before .before .run-text .ensures in
-    let whole = run-done _ _ _ (c .before .before .before .before .before .if1 .left) (c .before .before .before .before .if2 .left) in
+    let ran = c .before .before in
+    let fits = ran .before .before in
+    let r = ran .run-text .ensures in
+    let whole = run-done _ _ _ (fits .before .if1 .left) (fits .if2 .left) in
     (ap (λ (s : Rc4). record { answer = 0; state = s }) (r .0) ∙ sym (whole .0), r .1 ∙ sym (whole .1))
 
 pub run-spec : {M : Type 1} → statement M
