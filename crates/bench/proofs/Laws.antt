@@ -5,9 +5,6 @@ use mathlib.Core.List.{List}
 use Prim.Native.Nat.{ℕ}
 use lib.ListN.{length, take, replicate}
 use Rattle.octets.specs.Octets.{written}
-use Rattle.rc4.specs.declared.Keyed.{Keyed}
-use Rattle.rc4.specs.declared.Ran.{Ran}
-use Rattle.rc4.specs.Answers.{runAnswer, runOut}
 use Rattle.mppe_keys.specs.declared.Strength.{Strength}
 use Rattle.mppe.specs.declared.Link.{Link}
 use Rattle.mppe.specs.declared.Outcome.{Outcome}
@@ -19,13 +16,6 @@ pub handed : {A : Type 0} (number : A → ℕ) (octets : A → List ℕ) {given 
     → exit ≡ written (take (length out) (octets given)) out → (number given ≡ number said) × (exit ≡ copied (octets said) out)
 unfolding copied
 handed number octets out e w = (ap number e, w ∙ ap (λ d. copied (octets d) out) e)
-
--- a text run over the state of a key
-pub ran-keyed : {given said : Keyed} {ran : Ran} {exit : List ℕ} (text out : List ℕ) → given ≡ said
-    → (ran ≡ runAnswer (given .state) text out) × (exit ≡ runOut (given .state) text out)
-    → (ran .answer ≡ runAnswer (said .state) text out .answer) × (exit ≡ runOut (said .state) text out)
-ran-keyed text out e w =
-    (ap (λ r. r .answer) (w .0) ∙ ap (λ k. runAnswer (k .state) text out .answer) e, w .1 ∙ ap (λ k. runOut (k .state) text out) e)
 
 -- a link call with a record that equals another
 pub linked : (call : Link → List ℕ → List ℕ → Result) {given said : Link} {made : Outcome} {exit : List ℕ} (text out : List ℕ)

@@ -5,14 +5,13 @@ ghost use Rattle.sha1.specs.Sha1.{sha1Answer};
 ghost use Rattle.sha256.specs.Sha256.{sha256Answer};
 ghost use Rattle.sha256.specs.Hmac.{hmacAnswer};
 ghost use Rattle.des.specs.Des.{encryptAnswer};
-ghost use Rattle.rc4.specs.Answers.{keyedAnswer, runAnswer, runOut};
+ghost use Rattle.rc4.specs.Answers.{applyCode, applyOut};
 ghost use Rattle.mppe_keys.specs.Answers.{keyChangesAnswer};
 ghost use Rattle.mppe_keys.specs.declared.Strength.the-variants.{Bits128};
 ghost use Rattle.mppe.specs.Link.{longestPlain, sealResult, openResult};
 ghost use Rattle.bench.specs.Copied.{copied, strengthOf, linkAt};
 use mppe::Link;
 use mppe_keys::Strength;
-use rc4::Rc4;
 
 // MD4 of a text.
 #[no_mangle]
@@ -77,13 +76,10 @@ pub extern "C" fn bench_des(key: &[u8], block: &[u8], out: &mut [u8]) -> u8
 // RC4 of a text under a fresh key.
 #[no_mangle]
 pub extern "C" fn bench_rc4(key: &[u8], text: &[u8], out: &mut [u8]) -> u8
-    ensures { λ r. ⌜ (r ≡ runAnswer (keyedAnswer (now (key .entry)) .state) (now (text .entry)) (now (out .entry)) .answer)
-        × (now (out .exit) ≡ runOut (keyedAnswer (now (key .entry)) .state) (now (text .entry)) (now (out .entry))) ⌝ }
+    ensures { λ r. ⌜ (r ≡ applyCode (now (key .entry)) (now (text .entry)) (now (out .entry)))
+        × (now (out .exit) ≡ applyOut (now (key .entry)) (now (text .entry)) (now (out .entry))) ⌝ }
 {
-    let keyed = Rc4::keyed(key);
-    let state = keyed.state;
-    let ran = state.run(text, out);
-    ran.answer
+    rc4::apply(key, text, out)
 }
 
 // A session key of 128 bits after n key changes.
