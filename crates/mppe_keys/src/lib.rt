@@ -10,6 +10,7 @@ ghost use Rattle.mppe_keys.specs.Answers.{masterKeyAnswer, startKeyAnswe
 ghost use Rattle.mppe_keys.specs.Inner.{refusedKey, Changed};
 use octets::copy;
 use octets::copy_at;
+use rc4::Rc4;
 use rc4::apply;
 
 // The octets of a hash, of a master key, and of the places that every key has.
