@@ -3,7 +3,7 @@ use mathlib.Core.Path.{_≡_, refl, sym, ap, _∙_}
 use mathlib.Core.List.{List, [], _∷_, _++_}
 use Prim.Native.Nat.{ℕ, zero, suc, _+_, _*_, _%_, _<_, _≤_}
 use borrow.Author.Tests.{lt-ltb, le-ltb}
-use native.Mathlib.Nat.{mod-add-mod, zero-mod}
+use native.Mathlib.Nat.{add-assoc, mod-add-mod, zero-mod}
 use native.Mathlib.Numerals.{add-one}
 use native.Mathlib.Omega.{arith}
 use lib.ListN.{length, take, set, getD, replicate}
@@ -17,11 +17,12 @@ use Rattle.rc4.proofs.Boxes.{swap-octets}
 use Rattle.rc4.specs.Answers.{shortestKey, longestKey, keyedAnswer}
 
 -- one cell more of the box that a key schedule starts from
-pub below-more : (cells : List ℕ) (n : ℕ) → take n cells ≡ below n → length cells ≡ 256 → n < 256 → take (n + 1) (set cells n n) ≡ below (n + 1)
+pub below-more : (cells : List ℕ) (n k v : ℕ) → take (n + k) cells ≡ below (n + k) → v ≡ n + k → length cells ≡ 256 → n + k < 256
+    → take (n + (k + 1)) (set cells (n + k) v) ≡ below (n + (k + 1))
 unfolding below
-below-more cells n e long h =
-    let fits : n < length cells = omega arith in
-    rw (add-one, take-suc-set cells n n fits, e)
+below-more cells n k v e at long h =
+    let fits : n + k < length cells = omega arith in
+    rw (← add-assoc n k 1, add-one, take-suc-set cells (n + k) v fits, e, at)
 
 -- an octet behind octets
 snoc-octets : (l : List ℕ) (v : ℕ) → v < 256 → ((k : ℕ) → getD l k 0 < 256) → (k : ℕ) → getD (l ++ (v ∷ [])) k 0 < 256

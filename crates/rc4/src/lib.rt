@@ -43,7 +43,9 @@ impl Rc4 {
         ensures { λ r. ⌜ r ≡ keyedAnswer (now (key .entry)) ⌝ }
     {
         if SHORTEST_KEY <= key.len() && key.len() <= LONGEST_KEY {
-            let cells = narrow(key_schedule(key));
+            let mut words = ascending();
+            key_schedule(key, &mut words);
+            let cells = narrow(words);
             let state = Rc4 { cells, i: 0, j: 0 };
             Keyed {
                 answer: answer::DONE,
@@ -124,7 +126,8 @@ pub fn apply(key: &[u8], text: &[u8], out: &mut [u8]) -> u8
     if out.len() < text.len() {
         return answer::ROOM;
     }
-    let mut words = key_schedule(key);
+    let mut words = ascending();
+    key_schedule(key, &mut words);
     run_words(&mut words, 0, 0, text, out);
     answer::DONE
 }
@@ -139,36 +142,40 @@ pub fn draw_next(g: &mut Rc4) -> u8
     d.octet
 }
 
-// The box of a key after all rounds, sixteen in each turn. j is not wrapped mod 256 between them.
-fn key_schedule(key: &[u8]) -> [u32; 256]
-    requires { ⌜ 1 ≤ length (now key) ⌝ }
-    ensures { λ r. ⌜ (r ≡ rounds (now (key .entry)) 256 .cells) × OctetCells r ⌝ }
+// All rounds of a key over a box in place, sixteen in each turn. j is not wrapped mod 256 between them.
+fn key_schedule(key: &[u8], cells: &mut [u32; 256])
+    requires { ⌜ (1 ≤ length (now key)) × (now cells ≡ below 256) ⌝ }
+    ensures { λ _. ⌜ (now (cells .exit) ≡ rounds (now (key .entry)) 256 .cells) × OctetCells (now (cells .exit)) ⌝ }
 {
-    let mut cells = ascending();
     let mut place = 0;
     let mut j = 0;
     let mut i = 0;
     while i < 256 {
         let mut k = 0;
         while k < 16 {
-            j = mix(&mut cells, i + k, j, key[place]);
+            j = mix(cells, i + k, j, key[place]);
             place = next_place(place, key.len());
             k += 1;
         }
         i += 16;
     }
-    cells
 }
 
-// The numbers 0 to 255, in order.
+// The numbers 0 to 255, in order, sixteen in each turn.
 fn ascending() -> [u32; 256]
     ensures { λ r. ⌜ r ≡ below 256 ⌝ }
 {
     let mut cells = [0u32; 256];
+    let mut next = 0;
     let mut n = 0;
     while n < 256 {
-        cells[n] = n as u32;
-        n += 1;
+        let mut k = 0;
+        while k < 16 {
+            cells[n + k] = next;
+            next += 1;
+            k += 1;
+        }
+        n += 16;
     }
     cells
 }

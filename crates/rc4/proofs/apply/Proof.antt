@@ -26,6 +26,9 @@ returns-4 c =
     (passes _ _ _ (outside-none _ _ _ (high .before .if1 .left) (high .if2 .left)) (passes _ _ _ (le-ltb _ _ (short .if3 .left)) (stops _ _ _ (lt-ltb _ _ (c .if4 .taken)))))
     (suc-ne-zero 1)
 
+ascending-requires : tie.Need-ascending-requires
+ascending-requires c κs = search needs
+
 key-schedule-requires : tie.Need-key-schedule-requires
 key-schedule-requires c κs = search needs
 
@@ -39,7 +42,7 @@ returns-5 : tie.Need-returns-5
 returns-5 c =
     let ran = c .before .before in
     let made = ran .before .before .before in
-    let fits = made .before in
+    let fits = made .before .before .before in
     let short = fits .before in
     let high = short .before in
     applied _ _ _ (made .key-schedule .ensures .0) (ran .run-words .ensures) (high .before .if1 .left) (high .if2 .left) (short .if3 .left) (fits .if4 .left)
@@ -52,6 +55,7 @@ apply-spec =
     returns-2
     returns-3
     returns-4
+    ascending-requires
     key-schedule-requires
     run-words-requires
     same-length

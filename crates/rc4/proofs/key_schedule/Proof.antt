@@ -20,11 +20,8 @@ Inv-loop key cells₀ place₀ j₀ i₀ cells place j i = Mixed key cells place
 abbrev μ-loop : tie.MeasureT-loop
 μ-loop key cells₀ place₀ j₀ i₀ cells place j i = 256 - i
 
-ascending-requires : tie.Need-ascending-requires Inv-loop2 μ-loop2 Inv-loop μ-loop
-ascending-requires c κs = search needs
-
 loop-holds : tie.Need-loop-holds Inv-loop2 μ-loop2 Inv-loop μ-loop
-loop-holds c = (mixed-none _ (c .ascending .ensures) (c .before .before .pre), omega arith, omega arith)
+loop-holds c = (mixed-none _ (c .before .pre .1) (c .before .pre .0), omega arith, omega arith)
 
 loop2-holds : tie.Need-loop2-holds Inv-loop2 μ-loop2 Inv-loop μ-loop
 loop2-holds c = (rw add-zero (c .before .loop .inv .0), omega arith)
@@ -84,7 +81,6 @@ key-schedule-spec =
     μ-loop2
     Inv-loop
     μ-loop
-    ascending-requires
     loop-holds
     loop2-holds
     add-mix

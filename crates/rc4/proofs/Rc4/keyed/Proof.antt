@@ -11,6 +11,9 @@ use Rattle.rc4.proofs.Keys.{too-short, too-long}
 use Rattle.rc4.proofs.Rc4.keyed.Statement.{statement}
 use Rattle.rc4.proofs.Rc4.keyed.Tie as tie
 
+ascending-requires : tie.Need-ascending-requires
+ascending-requires c κs = search needs
+
 key-schedule-requires : tie.Need-key-schedule-requires
 key-schedule-requires c κs = search needs
 
@@ -21,7 +24,7 @@ returns : tie.Need-returns
 unfolding keySchedule
 returns c =
     let made = c .before in
-    let high = made .before in
+    let high = made .before .before .before in
     ap (λ (cells : List ℕ). record { answer = 0; state = box cells 0 0 }) (c .narrow .ensures ∙ made .key-schedule .ensures .0)
     ∙ sym (keyed-done _ (high .before .if1 .taken) (leb-true _ _ (high .if2 .taken)))
 
@@ -29,4 +32,4 @@ returns-2 : tie.Need-returns-2
 returns-2 c = ⊎-elim (λ w. too-long _ (w .0 .taken) (leb-false _ _ (w .1 .left))) (λ w. too-short _ (w .left)) (c .if1 .came)
 
 pub keyed-spec : {M : Type 1} → statement M
-keyed-spec = tie.close (tie.spec key-schedule-requires narrow-requires returns returns-2)
+keyed-spec = tie.close (tie.spec ascending-requires key-schedule-requires narrow-requires returns returns-2)
