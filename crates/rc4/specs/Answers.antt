@@ -1,4 +1,5 @@
 -- What the calls answer (01, "Numbers a call may answer" and "Lengths").
+use mathlib.Core.Bool.{Bool}
 use mathlib.Core.List.{List, [], _∷_}
 use Prim.Native.Nat.{ℕ}
 use lib.Dec.{ltb}
@@ -42,10 +43,13 @@ runAnswer s text out = record { answer = runCode text out; state = onDone (runCo
 unfoldable pub runOut : (s : Rc4) (text out : List ℕ) → List ℕ
 runOut s text out = onDone (runCode text out) (written (run s text) out) out
 
--- the number for a key, a text and a lent buffer
+-- the rows for a key, a text and a lent buffer: 3, 3, 2
+abbrev pub applyRows : (key text out : List ℕ) → List (ℕ × Bool)
+applyRows key text out =
+    (size, outside shortestKey longestKey (length key)) ∷ (size, ltb longestText (length text)) ∷ (room, ltb (length out) (length text)) ∷ []
+
 abbrev pub applyCode : (key text out : List ℕ) → ℕ
-applyCode key text out =
-    firstOf ((size, outside shortestKey longestKey (length key)) ∷ (size, ltb longestText (length text)) ∷ (room, ltb (length out) (length text)) ∷ [])
+applyCode key text out = firstOf (applyRows key text out)
 
 -- RC4 keyed with a key, applied to a text; a refusal leaves the lent buffer as it was
 unfoldable pub applyOut : (key text out : List ℕ) → List ℕ

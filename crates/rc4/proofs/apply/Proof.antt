@@ -1,30 +1,35 @@
 -- A refusal by each row of the table, and a run over the box of the key.
+use mathlib.Core.Path.{refl}
 use native.Mathlib.Nat.{suc-ne-zero}
 use borrow.Author.Tests.{lt-ltb, le-ltb}
-use Rattle.answer.specs.Laws.{stops, passes, outside-low, outside-high, outside-none, not-size}
+use Rattle.answer.specs.Laws.{Passed, table, pass, stop, outside-low, outside-high, outside-none, not-size}
+use Rattle.rc4.specs.Answers.{applyRows, applyCode}
 use Rattle.rc4.proofs.Texts.{apply-refused, applied}
 use borrow.Author.Needs.{needs}
 use Rattle.rc4.proofs.apply.Statement.{statement}
 use Rattle.rc4.proofs.apply.Tie as tie
 
+-- the table behind each row that is passed
+abbrev whole : tie.After-slice-known → Passed
+whole c = let a = c .before .before .before .args in table (applyCode (a .key .now) (a .text .now) (a .out .now)) (applyRows (a .key .now) (a .text .now) (a .out .now)) refl
+
+abbrev keyed : tie.Else2 → Passed
+keyed c = pass (whole (c .before .before)) (outside-none _ _ _ (c .before .if1 .left) (c .if2 .left))
+
+abbrev short : tie.Else3 → Passed
+short c = pass (keyed (c .before)) (le-ltb _ _ (c .if3 .left))
+
 returns : tie.Need-returns
-returns c = apply-refused _ _ _ (stops _ _ _ (outside-low _ _ _ (c .if1 .taken))) not-size
+returns c = apply-refused _ _ _ (stop (whole (c .before)) (outside-low _ _ _ (c .if1 .taken))) not-size
 
 returns-2 : tie.Need-returns-2
-returns-2 c = apply-refused _ _ _ (stops _ _ _ (outside-high _ _ _ (c .before .if1 .left) (c .if2 .taken))) not-size
+returns-2 c = apply-refused _ _ _ (stop (whole (c .before .before)) (outside-high _ _ _ (c .before .if1 .left) (c .if2 .taken))) not-size
 
 returns-3 : tie.Need-returns-3
-returns-3 c =
-    let high = c .before in
-    apply-refused _ _ _ (passes _ _ _ (outside-none _ _ _ (high .before .if1 .left) (high .if2 .left)) (stops _ _ _ (lt-ltb _ _ (c .if3 .taken)))) not-size
+returns-3 c = apply-refused _ _ _ (stop (keyed (c .before)) (lt-ltb _ _ (c .if3 .taken))) not-size
 
 returns-4 : tie.Need-returns-4
-returns-4 c =
-    let short = c .before in
-    let high = short .before in
-    apply-refused _ _ _
-    (passes _ _ _ (outside-none _ _ _ (high .before .if1 .left) (high .if2 .left)) (passes _ _ _ (le-ltb _ _ (short .if3 .left)) (stops _ _ _ (lt-ltb _ _ (c .if4 .taken)))))
-    (suc-ne-zero 1)
+returns-4 c = apply-refused _ _ _ (stop (short (c .before)) (lt-ltb _ _ (c .if4 .taken))) (suc-ne-zero 1)
 
 ascending-requires : tie.Need-ascending-requires
 ascending-requires c κs = search needs
