@@ -14,9 +14,10 @@ use Rattle.answer.specs.Answer.{pick, oneCode, twoCode}
 use Rattle.octets.specs.Octets.{written, longestText}
 use Rattle.sha1.specs.declared.Digest.{Digest}
 use Rattle.sha1.specs.Sha1.{sha1, sha1Answer}
+use Rattle.rc4.specs.declared.Keyed.{Keyed}
 use Rattle.rc4.specs.Cipher.{keySchedule}
-use Rattle.rc4.specs.Answers.{applyOut}
-use Rattle.rc4.specs.Laws.{run-length, apply-done}
+use Rattle.rc4.specs.Answers.{keyedAnswer, applyOut}
+use Rattle.rc4.specs.Laws.{run-length, keyed-done, apply-done}
 use Rattle.mppe_keys.specs.declared.Strength.{Strength}
 use Rattle.mppe_keys.specs.declared.Strength.the-variants.{Bits40, Bits56, Bits128}
 use Rattle.mppe_keys.specs.declared.Role.{Role}
