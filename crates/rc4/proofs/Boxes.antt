@@ -1,12 +1,12 @@
 -- A box of octets as one of words, and back: cell by cell, each cell an octet.
-use mathlib.Core.Path.{_≡_, refl, sym, ap, _∙_}
+use mathlib.Core.Path.{_≡_, refl, sym, _∙_}
 use mathlib.Core.List.{List, [], _∷_}
 use Prim.Native.Nat.{ℕ, zero, suc, _+_, _<_, _≤_}
 use native.Mathlib.Nat.{add-assoc}
 use native.Mathlib.Numerals.{add-one}
 use native.Mathlib.Omega.{arith}
 use lib.ListN.{length, getD, set, take, replicate, length-set}
-use lib.Seq.{take-suc, take-suc-set, take-all, getD-set-same, getD-set-other}
+use lib.Seq.{take-suc, take-suc-set, take-all}
 use Rattle.rc4.specs.Cipher.{swap}
 use Rattle.rc4.specs.Inner.{OctetCells}
 
@@ -24,24 +24,6 @@ swap-octets c a b w = record {
   long = simp length-set (w .long);
   octets = set-octets (set c a (getD c b 0)) b (getD c a 0) (w .octets a) (set-octets c a (getD c b 0) (w .octets b) (w .octets));
 }
-
--- a cell at which x is stored, and another one
-pub stored-here : (c : List ℕ) (at b x : ℕ) → at ≡ b → OctetCells c → b < 256 → x ≡ getD (set c b x) at 0
-stored-here c at b x here w h = rw here (sym (getD-set-same c b x 0 (omega (arith, w .long))))
-
-pub stored-there : (c : List ℕ) (at b x : ℕ) → (at ≡ b → ⊥) → getD c at 0 ≡ getD (set c b x) at 0
-stored-there c at b x other = sym (getD-set-other c b at x 0 other)
-
--- a cell stored elsewhere before makes no difference
-pub stored-past : (c : List ℕ) (a y b x at : ℕ) → (at ≡ a → ⊥) → getD (set (set c a y) b x) at 0 ≡ getD (set c b x) at 0
-stored-past [] a y b x at h = refl
-stored-past (z ∷ zs) zero y b x zero h = absurd (h refl)
-stored-past (z ∷ zs) zero y zero x (suc at) h = refl
-stored-past (z ∷ zs) zero y (suc b) x (suc at) h = refl
-stored-past (z ∷ zs) (suc a) y zero x zero h = refl
-stored-past (z ∷ zs) (suc a) y zero x (suc at) h = getD-set-other zs a at y 0 (λ e. h (ap suc e))
-stored-past (z ∷ zs) (suc a) y (suc b) x zero h = refl
-stored-past (z ∷ zs) (suc a) y (suc b) x (suc at) h = stored-past zs a y b x at (λ e. h (ap suc e))
 
 -- two cells change places where what is stored at b is the cell at a
 pub exchanged : (c : List ℕ) (a b : ℕ) {x : ℕ} → x ≡ getD c a 0 → set (set c a (getD c b 0)) b x ≡ swap c a b

@@ -11,7 +11,7 @@ use Rattle.rc4.specs.declared.Rc4.{Rc4}
 use Rattle.rc4.specs.declared.Drawn.{Drawn}
 use Rattle.rc4.specs.Inner.{wrapped, firstCell, OctetCells}
 use Rattle.rc4.specs.Answers.{drawAnswer}
-use Rattle.rc4.proofs.Boxes.{swap-octets, stored-past}
+use Rattle.rc4.proofs.Boxes.{swap-octets}
 
 -- after a swap each of the two cells has what the other had
 swap-first : (c : List ℕ) (a b : ℕ) → a < length c → getD (swap c a b) a 0 ≡ getD c b 0
@@ -43,12 +43,6 @@ module _ (c c′ : List ℕ) (i j x b : ℕ) (at-b : b ≡ (j + x) % 256) (swapp
       let first = swap-first c ((i + 1) % 256) b (omega arith) in
       let second = swap-second c ((i + 1) % 256) b (omega arith) in
       rw (read-v, mod-eq-of-lt octet, ← stepped, at-p) (rw (swapped, ← at-b, first, second, ← read, ← read-y))
-
-  -- and the cell that the next draw reads first, as it was read before the swap
-  pub first-next : {n : ℕ} → n ≡ getD (set c b x) ((i + 2) % 256) 0 → n ≡ firstCell c′ (i + 1)
-  first-next {n} e =
-      let on : (i + 1 + 1) % 256 ≡ (i + 2) % 256 = omega arith in
-      e ∙ rw (on, swapped, ← read) (sym (stored-past c ((i + 1) % 256) (getD c b 0) b x ((i + 2) % 256) (λ same. omega arith)))
 
 -- a cell that is read first is an octet
 pub first-octet : {c : List ℕ} {x : ℕ} (i : ℕ) → OctetCells c → x ≡ firstCell c i → x < 256

@@ -1,7 +1,7 @@
 // RC4: the key schedule, a draw, a run over a text, and a generator lent by reference (01, "Digests, DES and RC4").
 ghost use mathlib.Core.Path.{_≡_};
 ghost use Prim.Native.Nat.{_+_, _%_, _^_, _<_, _≤_};
-ghost use lib.ListN.{length, getD, set, replicate};
+ghost use lib.ListN.{length, getD, replicate};
 ghost use Rattle.octets.specs.Octets.{written, longestText};
 ghost use Rattle.rc4.specs.Cipher.{below, swap, rounds, step, drawn, run, after};
 ghost use Rattle.rc4.specs.Answers.{keyedAnswer, drawAnswer, runAnswer, runOut, applyCode, applyOut};
@@ -348,7 +348,7 @@ struct Advanced {
     x: u32,
 }
 
-// One draw over a box in place; x is the cell that it reads first. The next draw's is read before the swap, and need not wait for it.
+// One draw over a box in place; x is the cell that it reads first. The next draw's is read before the octet, which nothing waits for.
 fn advance(cells: &mut [u32; 256], i: usize, j: u32, x: u32) -> Advanced
     requires { ⌜ OctetCells (now cells) × (i < 2 ^ 32) × (j < 2 ^ 31) × (x ≡ firstCell (now cells) i) ⌝ }
     ensures { λ r. ⌜ (r .octet ≡ drawn (wrapped (now (cells .entry)) i j))
@@ -359,8 +359,8 @@ fn advance(cells: &mut [u32; 256], i: usize, j: u32, x: u32) -> Advanced
     let sum = j + x;
     let b = place(sum);
     let y = cell(cells, b);
-    let next = cell_after(cells, (i + 2) % 256, b, x);
     swap_cells(cells, a, x, b);
+    let next = first_cell(cells, i + 1);
     Advanced {
         octet: low(cell(cells, place(y + x))),
         j: sum,
@@ -370,19 +370,10 @@ fn advance(cells: &mut [u32; 256], i: usize, j: u32, x: u32) -> Advanced
 
 // The cell that a draw reads first.
 fn first_cell(cells: &[u32; 256], i: usize) -> u32
-    requires { ⌜ OctetCells (now cells) × (i < 2 ^ 32) ⌝ }
+    requires { ⌜ OctetCells (now cells) × (i < 2 ^ 33) ⌝ }
     ensures { λ r. ⌜ r ≡ firstCell (now (cells .entry)) i ⌝ }
 {
     cell(cells, (i + 1) % 256)
-}
-
-// The cell at a place as it is once x is stored at b.
-fn cell_after(cells: &[u32; 256], at: usize, b: usize, x: u32) -> u32
-    requires { ⌜ OctetCells (now cells) × (at < 256) × (b < 256) ⌝ }
-    ensures { λ r. ⌜ r ≡ getD (set (now (cells .entry)) b x) at 0 ⌝ }
-{
-    let here = cell(cells, at);
-    if at == b { x } else { here }
 }
 
 // The cell x at a and the cell at b change places.

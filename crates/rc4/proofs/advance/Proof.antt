@@ -1,8 +1,8 @@
--- The two reads and the swap of `advance` are those of a draw: `stepped` and `drew`. The cell that the next one reads first is `first-next`.
+-- The two reads and the swap of `advance` are those of a draw: `stepped` and `drew`.
 use mathlib.Core.Path.{_∙_}
 use native.Mathlib.Omega.{arith}
 use Rattle.rc4.proofs.Boxes.{swap-octets}
-use Rattle.rc4.proofs.Draws.{stepped, drew, first-next, first-octet}
+use Rattle.rc4.proofs.Draws.{stepped, drew, first-octet}
 use borrow.Author.Needs.{needs}
 use Rattle.rc4.proofs.advance.Statement.{statement}
 use Rattle.rc4.proofs.advance.Tie as tie
@@ -19,20 +19,23 @@ place-requires c κs = search needs
 cell-requires : tie.Need-cell-requires
 cell-requires c κs = search needs
 
-add-cell-after : tie.Need-add-cell-after
-add-cell-after c = search needs
-
-cell-after-requires : tie.Need-cell-after-requires
-cell-after-requires c κs = search needs
-
 swap-cells-requires : tie.Need-swap-cells-requires
 swap-cells-requires c κs = search needs
 
+add-first-cell : tie.Need-add-first-cell
+add-first-cell c = search needs
+
+first-cell-requires : tie.Need-first-cell-requires
+first-cell-requires c κs =
+    let swapped = c .before in
+    let read = swapped .before .before in
+    let begun = read .before .before .before in
+    (rw (swapped .swap-cells .ensures) (swap-octets _ _ _ (begun .pre .0)), omega arith)
+
 add-place : tie.Need-add-place
 add-place c =
-    let swapped = c .before in
-    let after = swapped .before .before in
-    let read = after .before .before in
+    let swapped = c .before .before .before in
+    let read = swapped .before .before in
     let begun = read .before .before .before in
     let x = first-octet (begun .args .i) (begun .pre .0) (begun .pre .3) in
     omega (arith, read .cell .ensures .1)
@@ -42,9 +45,9 @@ place-requires-2 c κs = search needs
 
 cell-requires-2 : tie.Need-cell-requires-2
 cell-requires-2 c κs =
-    let swapped = c .before .before in
-    let after = swapped .before .before in
-    let read = after .before .before in
+    let next = c .before .before in
+    let swapped = next .before .before in
+    let read = swapped .before .before in
     let begun = read .before .before .before in
     (rw (swapped .swap-cells .ensures) (swap-octets _ _ _ (begun .pre .0)), c .place2 .ensures .1)
 
@@ -55,17 +58,16 @@ returns : tie.Need-returns
 returns c =
     let drawn = c .before in
     let at = drawn .before in
-    let swapped = at .before .before in
-    let after = swapped .before .before in
-    let read = after .before .before in
+    let next = at .before .before in
+    let swapped = next .before .before in
+    let read = swapped .before .before in
     let placed = read .before .before in
     let begun = placed .before in
-    let cells = begun .args .cells .now in
     let p = begun .pre in
     let b = placed .place .ensures .0 in
     let made = swapped .swap-cells .ensures in
     let x = first-octet (begun .args .i) (p .0) (p .3) in
-    (c .low .ensures ∙ drew _ _ _ _ _ _ b made (p .3) (read .cell .ensures .0) (at .place2 .ensures .0) (drawn .cell2 .ensures .0) (p .0), stepped _ _ _ _ _ _ b made (p .3), omega arith, first-next cells _ _ _ _ _ b made (p .3) (after .cell-after .ensures))
+    (c .low .ensures ∙ drew _ _ _ _ _ _ b made (p .3) (read .cell .ensures .0) (at .place2 .ensures .0) (drawn .cell2 .ensures .0) (p .0), stepped _ _ _ _ _ _ b made (p .3), omega arith, next .first-cell .ensures)
 
 pub advance-spec : {M : Type 1} → statement M
 advance-spec =
@@ -75,9 +77,9 @@ advance-spec =
     add-sum
     place-requires
     cell-requires
-    add-cell-after
-    cell-after-requires
     swap-cells-requires
+    add-first-cell
+    first-cell-requires
     add-place
     place-requires-2
     cell-requires-2
