@@ -175,6 +175,7 @@ static void vector(const char *label, part key, const char *const printed[9])
         numbered("offset", offsets[k], answer, out + offsets[k], 16);
         published("RFC 6229", out + offsets[k] - 16, printed[k]);
     }
+    numbered("in one call, offset", offsets[8], answer, out + offsets[8], 16);
 }
 
 /* Both keys of each length: the first octets of one, and the last of another. */

@@ -10,11 +10,11 @@
 
 /* The calls' numbers in crates/cases. */
 enum {
-    MD4, SHA1, SHA256, HMAC_SHA256, DES, RC4_KEYED, RC4_RUN, RC4_DRAW,
+    MD4, SHA1, SHA256, HMAC_SHA256, DES, RC4_KEYED, RC4_RUN, RC4_DRAW, RC4_APPLY,
     PASSWORD_HASH = 16, HASH_HASH, HASH_CHALLENGE, CHALLENGE_RESPONSE,
     READ_CHALLENGE = 32, READ_RESPONSE, NAME, WRITE_CHALLENGE, WRITE_RESPONSE, READ_OPTION, WRITE_OPTION, ONLY,
     MASTER_KEY = 48, START_KEY, NEW_KEY, INITIAL_SESSION_KEY, REDUCE, KEY_CHANGE, KEY_CHANGES, MAKE_BASE_KEY,
-    PLACED_KEY_CHANGES, KEY_LENGTH,
+    PLACED_KEY_CHANGES, KEY_LENGTH, PLACED_CIPHER,
     NEW_LINK = 64, SEAL, OPEN
 };
 
@@ -248,6 +248,24 @@ static void expect_draw(const test *t, answer *a)
 {
     a->lent[0].n = 1;
     a->lent[0].at[0] = oracle_rc4_draw(state_of(t, a));
+}
+
+/* A key, a text and room for the result. */
+static void make_apply(test *t)
+{
+    make_keyed(t);
+    make_text(&t->in[1]);
+    make_room(&t->lent[0], t->in[1].n);
+}
+
+/* The buffer. */
+static void expect_apply(const test *t, answer *a)
+{
+    octet state[RC4_STATE];
+
+    a->number = oracle_rc4_keyed(in(t, 0), state);
+    if (a->number == DONE)
+        a->number = oracle_rc4_run(state, in(t, 1), lent(a, 0));
 }
 
 /* A password. */
@@ -587,6 +605,21 @@ static void expect_placed(const test *t, answer *a)
     oracle_key_changes(bits, start, session, t->y, field(a, KEY_PLACES));
 }
 
+/* A session key's places at a strength. */
+static void make_cipher(test *t)
+{
+    make_strength(t);
+    fill(&t->in[0], KEY_PLACES);
+}
+
+/* The state of RC4 keyed with its strength's octets. */
+static void expect_cipher(const test *t, answer *a)
+{
+    part session = {t->in[0].at, key_length(strength_bits(t->x))};
+
+    a->number = oracle_rc4_keyed(session, field(a, RC4_STATE));
+}
+
 /* Puts a record of 35 octets into a case: x is the strength, y the count, the first two inputs are the keys' places. */
 static void put_record(test *t, const octets *record)
 {
@@ -677,6 +710,7 @@ static const call calls[] = {
     {"Rc4::keyed", RC4_KEYED, make_keyed, expect_keyed},
     {"Rc4::run", RC4_RUN, make_run, expect_run},
     {"Rc4::draw", RC4_DRAW, make_state, expect_draw},
+    {"rc4::apply", RC4_APPLY, make_apply, expect_apply},
     {"password_hash", PASSWORD_HASH, make_one_password, expect_password_hash},
     {"hash_hash", HASH_HASH, make_hash, expect_hash_hash},
     {"challenge_hash", HASH_CHALLENGE, make_challenge_hash, expect_challenge_hash},
@@ -699,6 +733,7 @@ static const call calls[] = {
     {"base_key", MAKE_BASE_KEY, make_base_key, expect_base_key},
     {"placed_key_changes", PLACED_KEY_CHANGES, make_placed, expect_placed},
     {"key_length", KEY_LENGTH, make_strength, expect_key_length},
+    {"placed_cipher", PLACED_CIPHER, make_cipher, expect_cipher},
     {"Link::new", NEW_LINK, make_new_link, expect_new_link},
     {"Link::seal", SEAL, make_seal, expect_seal},
     {"Link::open", OPEN, make_open, expect_open},

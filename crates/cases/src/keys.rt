@@ -2,12 +2,13 @@
 use crate::Numbers;
 use crate::low;
 use crate::tell;
+use crate::texts::state_fields;
 use mppe_keys::Direction;
 use mppe_keys::Key;
 use mppe_keys::Role;
 use mppe_keys::Strength;
 
-// The calls 48 to 57.
+// The calls 48 to 58.
 pub fn call(n: Numbers, a: &[u8], b: &[u8]) {
     let call = n.call;
     match call {
@@ -21,6 +22,7 @@ pub fn call(n: Numbers, a: &[u8], b: &[u8]) {
         55 => tell_base_key(role(n.y), a, b),
         56 => tell_placed(strength(n.x), places(a), places(b), n.y),
         57 => tell_length(strength(n.x)),
+        58 => tell_cipher(strength(n.x), places(a)),
         _ => {}
     }
 }
@@ -64,6 +66,12 @@ fn tell_placed(strength: Strength, start: [u8; 16], session: [u8; 16], changes: 
 fn tell_length(strength: Strength) {
     let n = mppe_keys::key_length(strength);
     tell(0, &[low(n)], &[]);
+}
+
+// The state of RC4 keyed with a key in 16 places.
+fn tell_cipher(strength: Strength, session: [u8; 16]) {
+    let fields = state_fields(mppe_keys::placed_cipher(strength, session));
+    tell(0, &fields, &[]);
 }
 
 // Role n: 0 is the client.

@@ -4,7 +4,7 @@ use crate::low;
 use crate::tell;
 use rc4::Rc4;
 
-// The calls 0 to 7.
+// The calls 0 to 8.
 pub fn call(n: Numbers, a: &[u8], b: &[u8], lent: &mut [u8]) {
     let call = n.call;
     match call {
@@ -16,6 +16,7 @@ pub fn call(n: Numbers, a: &[u8], b: &[u8], lent: &mut [u8]) {
         5 => tell_keyed(a),
         6 => tell_run(state(n, a), b, lent),
         7 => tell_draw(state(n, a)),
+        8 => tell_applied(a, b, lent),
         _ => {}
     }
 }
@@ -80,6 +81,12 @@ fn tell_draw(s: Rc4) {
     tell(0, &fields, &[octet]);
 }
 
+// RC4 keyed with a key, applied to a text: the lent buffer.
+fn tell_applied(key: &[u8], text: &[u8], lent: &mut [u8]) {
+    let answer = rc4::apply(key, text, lent);
+    tell(answer, &[], lent);
+}
+
 // The state of a case: its first input as the box, with zeros behind a short one, and two numbers as the indices.
 fn state(n: Numbers, a: &[u8]) -> Rc4 {
     let mut cells = [0u8; 256];
@@ -92,7 +99,7 @@ fn state(n: Numbers, a: &[u8]) -> Rc4 {
 }
 
 // A state's octets: the box and both indices.
-fn state_fields(state: Rc4) -> [u8; 258] {
+pub fn state_fields(state: Rc4) -> [u8; 258] {
     let mut fields = [0u8; 258];
     let cells = state.cells;
     octets::copy(&cells, &mut fields);

@@ -114,6 +114,14 @@ fn vector(label: &[u8], bits: usize, key: &[u8]) {
     let s = k.state;
     let r = s.run(&[0u8; REACH], &mut out);
     offsets(r.answer, &out);
+    applied(key);
+}
+
+// The keystream by one call, at the last offset.
+fn applied(key: &[u8]) {
+    let mut out = [0u8; REACH];
+    let answer = rc4::apply(key, &[0u8; REACH], &mut out);
+    report::numbered(b"in one call, offset", 4096, answer, &out[4096..]);
 }
 
 // A keystream about each offset.
