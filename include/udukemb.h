@@ -33,9 +33,9 @@
  *       udukemb_check_response          2800
  *       udukemb_new_link                1200
  *       udukemb_nt_response             2800
- *       udukemb_open                    3400
+ *       udukemb_open                    3000
  *       udukemb_option_reply             200
- *       udukemb_seal                    3400
+ *       udukemb_seal                    2900
  *       udukemb_start_key               1200
  */
 
