@@ -1,6 +1,6 @@
 -- What the calls answer (01, "Numbers a call may answer" and "Lengths").
 use mathlib.Core.Bool.{Bool}
-use mathlib.Core.List.{List, [], _∷_}
+use mathlib.Core.List.{List, [], _∷_, _++_}
 use Prim.Native.Nat.{ℕ}
 use lib.Dec.{ltb}
 use lib.ListN.{length, replicate}
@@ -19,9 +19,12 @@ shortestKey = 1
 abbrev pub longestKey : ℕ
 longestKey = 256
 
--- the number for a key
+-- the row for a key, and its number
+abbrev pub keyRows : List ℕ → List (ℕ × Bool)
+keyRows key = (size, outside shortestKey longestKey (length key)) ∷ []
+
 abbrev pub keyCode : List ℕ → ℕ
-keyCode key = firstOf ((size, outside shortestKey longestKey (length key)) ∷ [])
+keyCode key = firstOf (keyRows key)
 
 -- a refused key has zeros
 unfoldable pub keyedAnswer : List ℕ → Keyed
@@ -31,9 +34,12 @@ keyedAnswer key = record { answer = keyCode key; state = onDone (keyCode key) (k
 abbrev pub drawAnswer : Rc4 → Drawn
 drawAnswer s = record { octet = drawn s; state = step s }
 
--- the number for a text and a lent buffer
+-- the rows for a text and a lent buffer, and their number
+abbrev pub runRows : (text out : List ℕ) → List (ℕ × Bool)
+runRows text out = (size, ltb longestText (length text)) ∷ (room, ltb (length out) (length text)) ∷ []
+
 abbrev pub runCode : (text out : List ℕ) → ℕ
-runCode text out = firstOf ((size, ltb longestText (length text)) ∷ (room, ltb (length out) (length text)) ∷ [])
+runCode text out = firstOf (runRows text out)
 
 -- a refused text hands back the state given ..
 unfoldable pub runAnswer : (s : Rc4) (text out : List ℕ) → Ran
@@ -43,10 +49,9 @@ runAnswer s text out = record { answer = runCode text out; state = onDone (runCo
 unfoldable pub runOut : (s : Rc4) (text out : List ℕ) → List ℕ
 runOut s text out = onDone (runCode text out) (written (run s text) out) out
 
--- the rows for a key, a text and a lent buffer: 3, 3, 2
+-- those of a key before those of a text and a lent buffer
 abbrev pub applyRows : (key text out : List ℕ) → List (ℕ × Bool)
-applyRows key text out =
-    (size, outside shortestKey longestKey (length key)) ∷ (size, ltb longestText (length text)) ∷ (room, ltb (length out) (length text)) ∷ []
+applyRows key text out = keyRows key ++ runRows text out
 
 abbrev pub applyCode : (key text out : List ℕ) → ℕ
 applyCode key text out = firstOf (applyRows key text out)
