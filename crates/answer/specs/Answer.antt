@@ -32,6 +32,7 @@ notRecord = 7
 abbrev pub strength : ℕ
 strength = 8
 
+-- no longer given (02, M-100); it keeps its number, so that no other refusal is ever 9
 abbrev pub domain : ℕ
 domain = 9
 

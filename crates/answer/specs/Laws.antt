@@ -59,6 +59,20 @@ clear n ((suc m, false) ∷ rows) all e = go (eqb (suc m) n) (clear n rows all e
     go true rest = (refl, rest)
     go false rest = rest
 
+-- a refusal that no row has is never answered
+abbrev pub numbered : ℕ → List (ℕ × Bool) → Bool
+numbered n [] = false
+numbered n (row ∷ rows) = pick (eqb (row .0) n) true (numbered n rows)
+
+pub never : (n : ℕ) (rows : List (ℕ × Bool)) → onDone n false true ≡ true → numbered n rows ≡ false → firstOf rows ≡ n → ⊥
+never n [] some none e = false≢true (rw (← e) at some)
+never n ((m, true) ∷ rows) some none e = true≢false (rw (eq-eqb m n e) at none)
+never n ((m, false) ∷ rows) some none e = never n rows some (go (eqb m n) none) e
+  where
+    go : (t : Bool) → pick t true (numbered n rows) ≡ false → numbered n rows ≡ false
+    go true none = absurd (true≢false none)
+    go false none = none
+
 -- rows of which none applies leave it to those behind them; where one applies, those behind do not matter
 pub rows-pass : (rows rest : List (ℕ × Bool)) → refusals rows ≡ true → firstOf rows ≡ done → firstOf (rows ++ rest) ≡ firstOf rest
 rows-pass [] rest all e = refl

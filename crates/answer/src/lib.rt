@@ -18,5 +18,5 @@ pub const REPEAT: u8 = 6;
 pub const RECORD: u8 = 7;
 // No strength is both offered and allowed.
 pub const STRENGTH: u8 = 8;
-// A user name to be hashed holds 0x5C.
+// A user name to be hashed holds 0x5C: no longer given (02, M-100). The number keeps its row, so that no other refusal is ever 9.
 pub const DOMAIN: u8 = 9;

@@ -10,9 +10,9 @@ use native.Mathlib.Omega.{arith}
 use lib.Bits.{bitOr, bitXor, or-add-and, xor-add-and, and-le-l, and-le-r, xor-self}
 use lib.Dec.{eqb, ltb, eqb→eq}
 use lib.ListN.{length, take, drop, replicate, getD, length-append, length-drop, length-replicate, drop-of-length-le}
-use lib.Seq.{drop-cons, drop-drop, take-all, take-at, take-suc, take-append-seam, drop-append-add, length-take-le}
+use lib.Seq.{split-at, drop-drop, take-all, take-at, take-suc, take-append-seam, drop-append-add, length-take-le}
 use borrow.Author.Tests.{ltb-false, lt-ltb, le-ltb, eq-eqb, ne-eqb}
-use Rattle.answer.specs.Answer.{done, size, domain, pick, firstOf, onDone, wrong}
+use Rattle.answer.specs.Answer.{done, size, pick, firstOf, onDone, wrong}
 use Rattle.answer.specs.Laws.{clear, rows-pass, rows-stop, told}
 use Rattle.octets.specs.Octets.{written, writtenAt, longestText}
 use Rattle.octets.specs.Below.{below}
@@ -35,21 +35,27 @@ use Rattle.mschap.specs.Lengths.{longestPassword, longestName}
 use Rattle.mschap.specs.Name.{backslash, holds, nameRows, hashedName}
 use Rattle.mschap.specs.Mschap.{passwordHash, hashHash, challengeHash, zPasswordHash, challengeResponse, ntResponse, magic1, magic2, hexDigit, hexDigits, encoded, signature, authenticatorString, equal}
 use Rattle.mschap.specs.Answers.{passwordRows, responseRows, stringRows, hashAnswer, challengeAnswer, responseAnswer, stringAnswer, checkAnswer, ntResponseAnswer, authenticatorStringAnswer, checkResponseAnswer, checkAuthenticatorAnswer}
-use Rattle.mschap.specs.Laws.{name-fits, hexDigits-length}
+use Rattle.mschap.specs.Laws.{holds-append, hashed-whole, hashed-behind, hashed-short, name-fits, hexDigits-length}
 
--- an octet looked for: it stands here, not here, nowhere
-pub found : (x : ℕ) (l : List ℕ) (i : ℕ) → holds x l ≡ holds x (drop i l) → getD l i 0 ≡ x → i < length l → true ≡ holds x l
-unfolding holds
-found x l i e ex h = rw (e, drop-cons l i 0 h, eq-eqb (getD l i 0) x ex)
+-- a name looked through up to a place: 0x5C stands there, another octet does, and the name ends
+pub user-behind : (name : List ℕ) (i : ℕ) → holds backslash (take i name) ≡ false → getD name i 0 ≡ backslash → i < length name
+    → drop (i + 1) name ≡ hashedName name
+user-behind name i none e h =
+    let parts : name ≡ take i name ++ backslash ∷ drop (i + 1) name = split-at name i 0 h ∙ rw (e, add-one) in
+    sym (ap hashedName parts ∙ hashed-behind (take i name) (drop (i + 1) name) none)
 
-pub not-here : (x : ℕ) (l : List ℕ) (i : ℕ) → holds x l ≡ holds x (drop i l) → (getD l i 0 ≡ x → ⊥) → i < length l
-    → holds x l ≡ holds x (drop (i + 1) l)
+pub none-so-far : (name : List ℕ) (i : ℕ) → holds backslash (take i name) ≡ false → (getD name i 0 ≡ backslash → ⊥) → i < length name
+    → holds backslash (take (i + 1) name) ≡ false
 unfolding holds
-not-here x l i e ex h = e ∙ rw (drop-cons l i 0 h, ne-eqb (getD l i 0) x ex, add-one)
+none-so-far name i none e h =
+    rw (add-one, take-suc name i 0 h, holds-append backslash (take i name) (getD name i 0 ∷ []), none, ne-eqb (getD name i 0) backslash e)
 
-pub nowhere : (x : ℕ) (l : List ℕ) (i : ℕ) → holds x l ≡ holds x (drop i l) → length l ≤ i → false ≡ holds x l
-unfolding holds
-nowhere x l i e h = rw (e, drop-of-length-le l {i = i} h)
+pub whole-name : (name : List ℕ) (i : ℕ) → holds backslash (take i name) ≡ false → length name ≤ i → name ≡ hashedName name
+whole-name name i none h = sym (hashed-whole name (rw (take-all i name h) at none))
+
+-- the name from there on
+pub user-part : (name : List ℕ) (k : ℕ) → drop k name ≡ hashedName name → take (length name - k) (drop k name) ≡ hashedName name
+user-part name k e = take-all (length name - k) (drop k name) (omega (arith, length-drop k name)) ∙ e
 
 -- octets differ nowhere exactly if the differences, joined, are 0
 or-none : (a b : ℕ) → bitOr a b ≡ 0 → (a ≡ 0) × (b ≡ 0)
@@ -240,16 +246,14 @@ string-told code string e =
 pub name-long : (name : List ℕ) → longestName < length name → size ≡ firstOf (nameRows name)
 name-long name h = rw (lt-ltb longestName (length name) h)
 
-pub name-domain : {t : Bool} (name : List ℕ) → t ≡ holds backslash name → length name ≤ longestName → t ≡ true → domain ≡ firstOf (nameRows name)
-name-domain name et h e = rw (le-ltb longestName (length name) h, ← et, e)
-
-pub name-done : {t : Bool} (name : List ℕ) → t ≡ holds backslash name → length name ≤ longestName → t ≡ false → done ≡ firstOf (nameRows name)
-name-done name et h e = sym (name-fits name h (sym et ∙ e))
+pub name-done : (name : List ℕ) → length name ≤ longestName → done ≡ firstOf (nameRows name)
+name-done name h = sym (name-fits name h)
 
 -- what is hashed of a name is no longer than a name may be
 pub name-short : {code : ℕ} (name : List ℕ) → code ≡ firstOf (nameRows name) → code ≡ done → length (hashedName name) ≤ longestName
-unfolding hashedName
-name-short name e z = ltb-false longestName (length name) (clear size (nameRows name) refl (sym e ∙ z) .0)
+name-short name e z =
+    let short = ltb-false longestName (length name) (clear size (nameRows name) refl (sym e ∙ z) .0) in
+    omega (arith, short, hashed-short name)
 
 pub challenge-hashed : {user digest o : List ℕ} (peer authenticator name : List ℕ) → user ≡ hashedName name
     → digest ≡ sha1 (peer ++ authenticator ++ user) → o ≡ take 8 digest → o ≡ challengeHash peer authenticator name

@@ -1,4 +1,4 @@
--- What the calls answer (01, "Numbers a call may answer" and "Lengths"). Every row of 3 stands before the one of 9.
+-- What the calls answer (01, "Numbers a call may answer" and "Lengths"). Every row is one of 3: refusal 9 is no longer given (02, M-100).
 use mathlib.Core.Bool.{Bool, false, not}
 use mathlib.Core.List.{List, [], _∷_, _++_}
 use Prim.Native.Nat.{ℕ, _%_}

@@ -1,15 +1,15 @@
 -- What follows from the definitions alone: the lengths of all results, what a call within its limits answers, and what a check says.
 use mathlib.Core.Path.{_≡_, refl, sym, _∙_}
-use mathlib.Core.Bool.{Bool, true, false, false≢true}
+use mathlib.Core.Bool.{Bool, true, false, _||_, or-assoc, or-true, true≢false, false≢true}
 use mathlib.Core.List.{List, [], _∷_, _++_}
 use Prim.Native.Nat.{ℕ, zero, suc, _*_, _%_, _≤_}
 use native.Mathlib.Omega.{arith}
-use lib.Dec.{eqb}
+use lib.Dec.{eqb, ltb}
 use lib.ListN.{length, take, drop, length-append}
 use lib.Seq.{length-take-le}
 use borrow.Author.Tests.{le-ltb, eq-eqb, eqb-true}
-use Rattle.answer.specs.Answer.{done, firstOf}
-use Rattle.answer.specs.Laws.{right}
+use Rattle.answer.specs.Answer.{done, size, domain, pick, wrong, firstOf}
+use Rattle.answer.specs.Laws.{right, never}
 use Rattle.md4.specs.Laws.{md4-length}
 use Rattle.sha1.specs.Sha1.{sha1}
 use Rattle.sha1.specs.Laws.{sha1-length}
@@ -20,7 +20,7 @@ use Rattle.mschap.specs.declared.NtResponse.{NtResponse}
 use Rattle.mschap.specs.declared.AuthenticatorString.{AuthenticatorString}
 use Rattle.mschap.specs.declared.Checked.{Checked}
 use Rattle.mschap.specs.Lengths.{longestPassword, longestName, challengeLength, responseLength, hashLength, challengeHashLength, stringLength}
-use Rattle.mschap.specs.Name.{backslash, holds, nameRows, hashedName}
+use Rattle.mschap.specs.Name.{backslash, holds, behind, nameRows, hashedName}
 use Rattle.mschap.specs.Mschap.{passwordHash, hashHash, challengeHash, zPasswordHash, challengeResponse, ntResponse, hexDigits, encoded, signature, authenticatorString, equal}
 use Rattle.mschap.specs.Answers.{passwordRows, challengeRows, responseRows, stringRows, hashAnswer, challengeAnswer, responseAnswer, stringAnswer, checkAnswer, passwordHashAnswer, hashHashAnswer, challengeHashAnswer, challengeResponseAnswer, ntResponseAnswer, authenticatorStringAnswer, checkResponseAnswer, checkAuthenticatorAnswer}
 
@@ -68,13 +68,58 @@ pub authenticatorString-length : (password response peer authenticator name : Li
 unfolding authenticatorString signature
 authenticatorString-length password response peer authenticator name = encoded-length _ (sha1-length _)
 
+-- an octet is among two texts, one behind the other, where it is among one of them
+pub holds-append : (x : ℕ) (a b : List ℕ) → holds x (a ++ b) ≡ (holds x a || holds x b)
+unfolding holds
+holds-append x [] b = refl
+holds-append x (y ∷ a) b = rw (holds-append x a b, or-assoc (eqb y x) (holds x a) (holds x b))
+
+-- what follows the first of an octet
+behind-first : (x : ℕ) (a b : List ℕ) → holds x a ≡ false → behind x (a ++ x ∷ b) ≡ b
+unfolding holds behind
+behind-first x [] b e = rw (eq-eqb x x refl)
+behind-first x (y ∷ a) b e = go (eqb y x) e (behind-first x a b)
+  where
+    go : (t : Bool) → (t || holds x a) ≡ false → (holds x a ≡ false → behind x (a ++ x ∷ b) ≡ b)
+        → pick t (a ++ x ∷ b) (behind x (a ++ x ∷ b)) ≡ b
+    go true e rest = absurd (true≢false e)
+    go false e rest = rest e
+
+behind-short : (x : ℕ) (l : List ℕ) → length (behind x l) ≤ length l
+unfolding behind
+behind-short x [] = omega arith
+behind-short x (y ∷ l) = go (eqb y x) (behind-short x l)
+  where
+    go : (t : Bool) → length (behind x l) ≤ length l → length (pick t l (behind x l)) ≤ length (y ∷ l)
+    go true h = omega arith
+    go false h = omega arith
+
+-- a name without 0x5C is hashed whole ..
+pub hashed-whole : (name : List ℕ) → holds backslash name ≡ false → hashedName name ≡ name
+unfolding hashedName
+hashed-whole name e = rw e
+
+-- .. and of any other what follows its first 0x5C: nothing where that is its last octet; a second 0x5C is an octet like any other
+pub hashed-behind : (domain user : List ℕ) → holds backslash domain ≡ false → hashedName (domain ++ backslash ∷ user) ≡ user
+unfolding hashedName holds
+hashed-behind domain user e =
+    rw (holds-append backslash domain (backslash ∷ user), or-true (holds backslash domain)) (behind-first backslash domain user e)
+
+pub hashed-short : (name : List ℕ) → length (hashedName name) ≤ length name
+unfolding hashedName
+hashed-short name = go (holds backslash name)
+  where
+    go : (t : Bool) → length (pick t (behind backslash name) name) ≤ length name
+    go true = behind-short backslash name
+    go false = omega arith
+
 -- rows that do not apply
 pub password-fits : (password : List ℕ) (rows : List (ℕ × Bool)) → length password ≤ longestPassword → length password % 2 ≡ 0
     → firstOf (passwordRows password ++ rows) ≡ firstOf rows
 password-fits password rows h e = rw (le-ltb longestPassword (length password) h, eq-eqb (length password % 2) 0 e)
 
-pub name-fits : (name : List ℕ) → length name ≤ longestName → holds backslash name ≡ false → firstOf (nameRows name) ≡ done
-name-fits name h e = rw (le-ltb longestName (length name) h, e)
+pub name-fits : (name : List ℕ) → length name ≤ longestName → firstOf (nameRows name) ≡ done
+name-fits name h = rw (le-ltb longestName (length name) h)
 
 pub challenge-fits : (peer authenticator name : List ℕ) → length peer ≡ challengeLength → length authenticator ≡ challengeLength
     → firstOf (nameRows name) ≡ done → firstOf (challengeRows peer authenticator name) ≡ done
@@ -195,3 +240,44 @@ pub checkAuthenticator-only : (password response peer authenticator name receive
 unfolding checkAuthenticatorAnswer
 checkAuthenticator-only password response peer authenticator name received h =
     sym (equal-true (authenticatorString password response peer authenticator name) received (check-yes _ _ h .1))
+
+-- two names for which each of the five calls that hash a name answers the same, whatever else it is given
+abbrev pub SameAnswers : List ℕ → List ℕ → Type 0
+SameAnswers a b =
+    ((peer authenticator : List ℕ) → challengeHashAnswer peer authenticator a ≡ challengeHashAnswer peer authenticator b)
+    × ((authenticator peer password : List ℕ) → ntResponseAnswer authenticator peer a password ≡ ntResponseAnswer authenticator peer b password)
+    × ((password response peer authenticator : List ℕ)
+    → authenticatorStringAnswer password response peer authenticator a ≡ authenticatorStringAnswer password response peer authenticator b)
+    × ((authenticator peer password received : List ℕ)
+    → checkResponseAnswer authenticator peer a password received ≡ checkResponseAnswer authenticator peer b password received)
+    × ((password response peer authenticator received : List ℕ)
+    → checkAuthenticatorAnswer password response peer authenticator a received ≡ checkAuthenticatorAnswer password response peer authenticator b received)
+
+same-answers : (a b : List ℕ) → length a ≤ longestName → length b ≤ longestName → hashedName a ≡ hashedName b → SameAnswers a b
+unfolding challengeHashAnswer ntResponseAnswer authenticatorStringAnswer checkResponseAnswer checkAuthenticatorAnswer challengeHash ntResponse authenticatorString
+same-answers a b ha hb e =
+    let rows : (ltb longestName (length a)) ≡ (ltb longestName (length b)) = le-ltb longestName (length a) ha ∙ sym (le-ltb longestName (length b) hb) in
+    (λ peer authenticator. rw (rows, e), λ authenticator peer password. rw (rows, e), λ password response peer authenticator. rw (rows, e), λ authenticator peer password received. rw (rows, e), λ password response peer authenticator received. rw (rows, e))
+
+-- "NORTH\pump4" is "pump4": a domain, one 0x5C and a user name, together within the limit, are answered as that user name alone
+pub domain-ignored : (domain user : List ℕ) → holds backslash domain ≡ false → holds backslash user ≡ false
+    → length (domain ++ backslash ∷ user) ≤ longestName → SameAnswers (domain ++ backslash ∷ user) user
+domain-ignored domain user ed eu h =
+    let all = length-append domain (backslash ∷ user) in
+    same-answers (domain ++ backslash ∷ user) user h (omega (arith, all)) (hashed-behind domain user ed ∙ sym (hashed-whole user eu))
+
+-- 9 is given by none of them
+pub domain-never : (password response peer authenticator name received : List ℕ)
+    → (challengeHashAnswer peer authenticator name .answer ≡ domain → ⊥)
+    × (ntResponseAnswer authenticator peer name password .answer ≡ domain → ⊥)
+    × (authenticatorStringAnswer password response peer authenticator name .answer ≡ domain → ⊥)
+    × (checkResponseAnswer authenticator peer name password received .answer ≡ domain → ⊥)
+    × (checkAuthenticatorAnswer password response peer authenticator name received .answer ≡ domain → ⊥)
+unfolding challengeHashAnswer challengeAnswer ntResponseAnswer responseAnswer authenticatorStringAnswer stringAnswer checkResponseAnswer checkAuthenticatorAnswer checkAnswer
+domain-never password response peer authenticator name received = (
+  never domain (challengeRows peer authenticator name) refl refl,
+  never domain (responseRows authenticator peer name password) refl refl,
+  never domain (stringRows password response peer authenticator name) refl refl,
+  never domain ((size, wrong responseLength received) ∷ responseRows authenticator peer name password) refl refl,
+  never domain ((size, wrong stringLength received) ∷ stringRows password response peer authenticator name) refl refl,
+)

@@ -1,25 +1,31 @@
--- From a whole user name to a refusal or the octets that are hashed (RFC 2759, sections 4 and 8.2; 01, row 9).
+-- From a whole user name to a refusal or the octets that are hashed (RFC 2759, sections 4 and 8.2; 02, M-100).
 use mathlib.Core.Bool.{Bool, false, _||_}
 use mathlib.Core.List.{List, [], _∷_}
 use Prim.Native.Nat.{ℕ}
 use lib.Dec.{eqb, ltb}
 use lib.ListN.{length}
-use Rattle.answer.specs.Answer.{size, domain}
+use Rattle.answer.specs.Answer.{size, pick}
 use Rattle.mschap.specs.Lengths.{longestName}
 
 -- what stands between a domain and a user name: "BIGCO\johndoe"
 abbrev pub backslash : ℕ
 backslash = 0x5C
 
+-- "the limit of 256 is still tested on the whole name, first"
+abbrev pub nameRows : List ℕ → List (ℕ × Bool)
+nameRows name = (size, ltb longestName (length name)) ∷ []
+
 -- whether an octet is among others
 unfoldable pub holds : ℕ → List ℕ → Bool
 holds x [] = false
 holds x (y ∷ ys) = eqb y x || holds x ys
 
--- "Hashes of a name: 3, 9"; 9: "a user name to be hashed holds 0x5C"
-abbrev pub nameRows : List ℕ → List (ℕ × Bool)
-nameRows name = (size, ltb longestName (length name)) ∷ (domain, holds backslash name) ∷ []
+-- what follows the first of an octet among others
+unfoldable pub behind : ℕ → List ℕ → List ℕ
+behind x [] = []
+behind x (y ∷ ys) = pick (eqb y x) ys (behind x ys)
 
--- 8.2: "Only the user name (as presented by the peer and excluding any prepended domain name)"; a name with a domain is refused
+-- 8.2: "Only the user name (as presented by the peer and excluding any prepended domain name)";
+-- "Where a name holds 0x5C, hash only what follows the first one"
 unfoldable pub hashedName : List ℕ → List ℕ
-hashedName name = name
+hashedName name = pick (holds backslash name) (behind backslash name) name

@@ -3,13 +3,13 @@ ghost use mathlib.Core.Path.{_≡_};
 ghost use mathlib.Core.Bool.{false};
 ghost use mathlib.Core.List.{_∷_, [], _++_};
 ghost use Prim.Native.Nat.{_+_, _/_, _%_, _<_, _≤_};
-ghost use lib.ListN.{length, take, replicate};
+ghost use lib.ListN.{length, take, drop, replicate};
 ghost use Rattle.answer.specs.Answer.{size, firstOf};
 ghost use Rattle.octets.specs.Octets.{written, longestText};
 ghost use Rattle.md4.specs.Md4.{md4 as md4Of};
 ghost use Rattle.sha1.specs.Sha1.{sha1 as sha1Of};
 ghost use Rattle.des.specs.Des.{encrypted};
-ghost use Rattle.mschap.specs.Name.{holds as isHeld, nameRows, hashedName};
+ghost use Rattle.mschap.specs.Name.{nameRows, hashedName};
 ghost use Rattle.mschap.specs.Mschap.{challengeResponse, hexDigit, encoded as encodedOf, signature as signatureOf, equal};
 ghost use Rattle.mschap.specs.Answers.{passwordHashAnswer, hashHashAnswer, challengeHashAnswer, challengeResponseAnswer, ntResponseAnswer, authenticatorStringAnswer, checkResponseAnswer, checkAuthenticatorAnswer};
 use octets::copy;
@@ -286,31 +286,29 @@ fn name_code(name: &[u8]) -> u8
     if LONGEST_NAME < name.len() {
         return answer::SIZE;
     }
-    if holds(name, BACKSLASH) {
-        return answer::DOMAIN;
-    }
     answer::DONE
 }
 
-// The part of a name that is hashed: all of it, since one with a domain is refused. Every call that hashes a name takes it from here.
+// The part of a name that is hashed. Every call that hashes a name takes it from here.
 fn hashed_name(name: &[u8]) -> &[u8]
     ensures { λ r. ⌜ now r ≡ hashedName (now (name .entry)) ⌝ }
 {
-    name
+    let start = user_start(name);
+    &name[start..]
 }
 
-// Whether an octet is among others.
-fn holds(octets: &[u8], octet: u8) -> bool
-    ensures { λ r. ⌜ r ≡ isHeld octet (now (octets .entry)) ⌝ }
+// Where the part that is hashed begins: behind the first backslash, or at the front where there is none.
+fn user_start(name: &[u8]) -> usize
+    ensures { λ r. ⌜ (drop r (now (name .entry)) ≡ hashedName (now (name .entry))) × (r ≤ length (now (name .entry))) ⌝ }
 {
     let mut i = 0;
-    while i < octets.len() {
-        if octets[i] == octet {
-            return true;
+    while i < name.len() {
+        if name[i] == BACKSLASH {
+            return i + 1;
         }
         i += 1;
     }
-    false
+    0
 }
 
 // The three blocks of a response.
