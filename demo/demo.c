@@ -11,7 +11,8 @@
 
 enum { BITS = 128, READINGS = 6, LOST_FROM = 2, LOST_TO = 3 };
 
-/* The user, password and challenges of RFC 2759, section 9.2. The password is UTF-16, low octet first. */
+/* The user, password and challenges of RFC 2759, section 9.2, the user with a domain in front. The password is UTF-16, low octet first. */
+static const uint8_t name[] = { 'N', 'O', 'R', 'T', 'H', '\\', 'U', 's', 'e', 'r' };
 static const uint8_t user[] = { 'U', 's', 'e', 'r' };
 static const uint8_t password[] = { 'c', 0, 'l', 0, 'i', 0, 'e', 0, 'n', 0, 't', 0, 'P', 0, 'a', 0, 's', 0, 's', 0 };
 static const uint8_t wrong_password[] = { 'c', 0, 'l', 0, 'i', 0, 'e', 0, 'n', 0, 't', 0, 'P', 0, 'a', 0, 's', 0, 'S', 0 };
@@ -32,7 +33,7 @@ static const char *meaning(uint8_t answer)
                                          "it was opened before",
                                          "the link record is damaged",
                                          "no strength is both offered and allowed",
-                                         "the user name holds a domain" };
+                                         "a number that is no longer given" };
 
     return answer < sizeof words / sizeof words[0] ? words[answer] : "unknown";
 }
@@ -67,28 +68,32 @@ static void login(uint8_t response[UDUKEMB_NT_RESPONSE])
 {
     uint8_t string[UDUKEMB_AUTHENTICATOR_STRING];
 
-    printf("1. The station logs in as \"User\"\n");
+    printf("1. The station logs in as \"%.*s\"\n", (int)sizeof name, (const char *)name);
     must("the response",
          udukemb_nt_response(control_room_challenge, sizeof control_room_challenge, station_challenge, sizeof station_challenge,
-                             user, sizeof user, password, sizeof password, response, UDUKEMB_NT_RESPONSE));
+                             name, sizeof name, password, sizeof password, response, UDUKEMB_NT_RESPONSE));
     show("the station's response", response, UDUKEMB_NT_RESPONSE);
     show_check("the control room checks it",
+               udukemb_check_response(control_room_challenge, sizeof control_room_challenge, station_challenge,
+                                      sizeof station_challenge, name, sizeof name, password, sizeof password, response,
+                                      UDUKEMB_NT_RESPONSE));
+    show_check("the same response, by the name without its domain",
                udukemb_check_response(control_room_challenge, sizeof control_room_challenge, station_challenge,
                                       sizeof station_challenge, user, sizeof user, password, sizeof password, response,
                                       UDUKEMB_NT_RESPONSE));
     show_check("the same response, had the password another last letter",
                udukemb_check_response(control_room_challenge, sizeof control_room_challenge, station_challenge,
-                                      sizeof station_challenge, user, sizeof user, wrong_password, sizeof wrong_password,
+                                      sizeof station_challenge, name, sizeof name, wrong_password, sizeof wrong_password,
                                       response, UDUKEMB_NT_RESPONSE));
     must("the authenticator string",
          udukemb_authenticator_string(password, sizeof password, response, UDUKEMB_NT_RESPONSE, station_challenge,
-                                      sizeof station_challenge, control_room_challenge, sizeof control_room_challenge, user,
-                                      sizeof user, string, sizeof string));
+                                      sizeof station_challenge, control_room_challenge, sizeof control_room_challenge, name,
+                                      sizeof name, string, sizeof string));
     printf("  the control room answers    %.*s\n", (int)sizeof string, (const char *)string);
     show_check("the station checks it",
                udukemb_check_authenticator(password, sizeof password, response, UDUKEMB_NT_RESPONSE, station_challenge,
                                            sizeof station_challenge, control_room_challenge, sizeof control_room_challenge,
-                                           user, sizeof user, string, sizeof string));
+                                           name, sizeof name, string, sizeof string));
     printf("\n");
 }
 

@@ -7,7 +7,7 @@
  *     null pointer.
  *   - keeps nothing, allocates nothing and has no state of its own, so any thread may make it. What is lent to it must
  *     not be used elsewhere meanwhile.
- *   - answers a number, 0 to 9: the first that applies, in the order in which they are named with it, or 0.
+ *   - answers a number of those below: the first that applies, in the order in which they are named with it, or 0.
  *   - changes no lent octet where it answers another number than 0. On 0 the result stands in front of the buffer lent
  *     for it, and the octets behind it stay as they were.
  *   - takes a bool that is true or false, and nothing else in its place.
@@ -48,7 +48,7 @@
 
 /* The version of this interface: a new major number may break a program, a new minor one adds to it. */
 #define UDUKEMB_VERSION_MAJOR 1
-#define UDUKEMB_VERSION_MINOR 0
+#define UDUKEMB_VERSION_MINOR 1
 
 /* A call whose answer is not looked at is warned of, where the compiler can. */
 #if defined(__GNUC__)
@@ -72,13 +72,13 @@ enum {
     UDUKEMB_REPEAT = 6,   /* the count equals the last one */
     UDUKEMB_RECORD = 7,   /* the octets are no well formed link record */
     UDUKEMB_STRENGTH = 8, /* no strength is both offered and allowed; or the bits are none of 40, 56 and 128 */
-    UDUKEMB_DOMAIN = 9    /* a user name holds 0x5C, a backslash */
+    UDUKEMB_DOMAIN = 9    /* no longer given, and never another refusal's number: a user name held a backslash */
 };
 
 /* Lengths in octets. */
 enum {
     UDUKEMB_LONGEST_PASSWORD = 512,    /* UTF-16, low octet first, so always even; no octet is a password too */
-    UDUKEMB_LONGEST_NAME = 256,        /* a user name without its domain; it may be empty */
+    UDUKEMB_LONGEST_NAME = 256,        /* a user name, with its domain where it has one; it may be empty */
     UDUKEMB_CHALLENGE = 16,            /* of the authenticator or the peer */
     UDUKEMB_NT_RESPONSE = 24,
     UDUKEMB_AUTHENTICATOR_STRING = 42, /* "S=" and 40 hexadecimal digits in upper case, no 0 behind them */
@@ -120,13 +120,16 @@ struct udukemb_opened {
  * A login. Mind the order of the challenges: as in RFC 2759, the two calls for the NT-Response take the authenticator's
  * first, and the two for the authenticator string take the peer's first. Exchanged challenges are not noticed: both
  * have 16 octets, and the answer is 0 with another result.
+ *
+ * A name may have a domain in front, as NORTH\pump4. What is hashed is what follows the first backslash (0x5C), and the
+ * whole name where there is none; a second backslash is an octet like any other. The limit is that of the whole name.
  */
 
 /*
  * Whether the NT-Response `received` is the one that the password gives to both challenges. A difference is a no with
  * answer 0.
  * Lengths: challenges 16; name 0 to 256; password 0 to 512, even; received 24.
- * Answers: 3 size, a length is outside its limits; 9 domain, the name holds 0x5C.
+ * Answers: 3 size, a length is outside its limits.
  */
 UDUKEMB_MUST_USE struct udukemb_check udukemb_check_response(
     const uint8_t *authenticator_challenge, size_t authenticator_challenge_len,
@@ -138,8 +141,7 @@ UDUKEMB_MUST_USE struct udukemb_check udukemb_check_response(
 /*
  * The NT-Response of the password to both challenges, 24 octets into `out`.
  * Lengths: challenges 16; name 0 to 256; password 0 to 512, even.
- * Answers: 3 size, a length is outside its limits; 9 domain, the name holds 0x5C; 2 room, `out` has fewer than 24
- * octets.
+ * Answers: 3 size, a length is outside its limits; 2 room, `out` has fewer than 24 octets.
  */
 UDUKEMB_MUST_USE uint8_t udukemb_nt_response(
     const uint8_t *authenticator_challenge, size_t authenticator_challenge_len,
@@ -152,8 +154,7 @@ UDUKEMB_MUST_USE uint8_t udukemb_nt_response(
  * The string by which an authenticator proves to a peer that it knows the password, 42 octets into `out`. The peer's
  * challenge comes first.
  * Lengths: password 0 to 512, even; response 24; challenges 16; name 0 to 256.
- * Answers: 3 size, a length is outside its limits; 9 domain, the name holds 0x5C; 2 room, `out` has fewer than 42
- * octets.
+ * Answers: 3 size, a length is outside its limits; 2 room, `out` has fewer than 42 octets.
  */
 UDUKEMB_MUST_USE uint8_t udukemb_authenticator_string(
     const uint8_t *password, size_t password_len,
@@ -167,7 +168,7 @@ UDUKEMB_MUST_USE uint8_t udukemb_authenticator_string(
  * Whether the authenticator string `received` is the one that the password gives. A difference is a no with answer 0.
  * The peer's challenge comes first.
  * Lengths: password 0 to 512, even; response 24; challenges 16; name 0 to 256; received 42.
- * Answers: 3 size, a length is outside its limits; 9 domain, the name holds 0x5C.
+ * Answers: 3 size, a length is outside its limits.
  */
 UDUKEMB_MUST_USE struct udukemb_check udukemb_check_authenticator(
     const uint8_t *password, size_t password_len,

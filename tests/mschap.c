@@ -95,7 +95,7 @@ static void show_response(part challenge, part hash)
     line("response", oracle_challenge_response(challenge, hash, response), response, NT_RESPONSE);
 }
 
-/* Section 9.2: the values that lead to the master key, and the authenticator's response. */
+/* Section 9.2: the values that lead to the master key, and the authenticator's response; then the same for its user with a domain. */
 static void section_9_2(part authenticator, part peer, part name, part password)
 {
     octet master[KEY_PLACES], response[NT_RESPONSE], string[AUTHENTICATOR_STRING];
@@ -103,6 +103,8 @@ static void section_9_2(part authenticator, part peer, part name, part password)
     sample_master_key(master);
     oracle_authenticator_string(password, printed(SAMPLE_RESPONSE, response), peer, authenticator, name, string);
     held(memcmp(string, AUTHENTICATOR_RESPONSE, AUTHENTICATOR_STRING) == 0, "AuthenticatorResponse", AUTHENTICATOR_RESPONSE);
+    oracle_nt_response(authenticator, peer, LITERAL("NORTH\\User"), password, response);
+    published("NT-Response of NORTH\\User", response, SAMPLE_RESPONSE);
 }
 
 /* Seven octets of a key as eight with odd parity, as 9.3 prints them. */
@@ -135,21 +137,37 @@ static void section_9_3(part password)
     show_response(of(hash, CHALLENGE_HASH), of(hash, HASH));
 }
 
+/* Names with 0x5C: none, one, several and nothing else, in front, within and at the end, short and at the limit. */
+static void domains(part authenticator, part peer)
+{
+    static const char *const names[] = {"BIGCO\\johndoe", "johndoe", "\\", "\\\\", "\\pump4", "NORTH\\", "A\\B\\c", "B\\c", "\\A\\B\\"};
+    static const size_t places[][2] = {{0, 0}, {128, 128}, {255, 255}, {256, 256}, {100, 200}};
+    part word = LITERAL("p\0w\0");
+    octet name[257];
+
+    for (size_t k = 0; k < sizeof names / sizeof names[0]; k++)
+        all(authenticator, peer, of(names[k], strlen(names[k])), word);
+    all(authenticator, peer, LITERAL("BIGCO\\johndoe"), LITERAL("p\0w"));
+    memset(name, 0x5C, sizeof name);
+    for (size_t n = 256; n <= 257; n++)
+        all(authenticator, peer, of(name, n), word);
+    for (size_t k = 0; k < 5; k++)
+        for (size_t n = 256; n <= 257; n++) {
+            memcpy(name, text, sizeof name);
+            name[places[k][0]] = name[places[k][1]] = 0x5C;
+            all(authenticator, peer, of(name, n), word);
+        }
+}
+
 /* Names and passwords at and beyond their limits. */
 static void limits(part authenticator, part peer, part user)
 {
     static const size_t names[] = {0, 1, 255, 256, 257}, passwords[] = {0, 1, 2, 510, 511, 512, 513, 514};
     part domain = LITERAL("BIGCO\\johndoe"), word = LITERAL("p\0w\0");
-    octet backslashes[257];
 
-    memset(backslashes, '\\', sizeof backslashes);
     for (size_t k = 0; k < 5; k++)
         all(authenticator, peer, of(text, names[k]), word);
-    all(authenticator, peer, domain, word);
-    all(authenticator, peer, LITERAL("\\"), word);
-    all(authenticator, peer, of(backslashes, 256), word);
-    all(authenticator, peer, of(backslashes, 257), word);
-    all(authenticator, peer, domain, LITERAL("p\0w"));
+    domains(authenticator, peer);
     for (size_t k = 0; k < 8; k++)
         all(authenticator, peer, user, of(text, passwords[k]));
     for (size_t m = 23; m <= 25; m++)
@@ -170,6 +188,7 @@ int main(void)
     section_9_2(authenticator, peer, user, password);
     all(authenticator, peer, user, password);
     others(authenticator, peer, user, password);
+    all(authenticator, peer, LITERAL("NORTH\\User"), password);
     section_9_3(LITERAL("M\0y\0P\0w\0"));
     limits(authenticator, peer, user);
     for (size_t m = 15; m <= 17; m++)

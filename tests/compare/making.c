@@ -92,15 +92,32 @@ void make_password(octets *o)
     fill(o, one_in(10) ? n : n / 2 * 2);
 }
 
-/* Without 0x5C but for one in eight, which has it in front, at the end or within. */
+/* Half of them without 0x5C; the others with it in front, at the end, within, in up to four places, or in all. */
 void make_name(octets *o)
 {
     fill(o, within(0, LONGEST_NAME));
     for (size_t k = 0; k < o->n; k++)
         if (o->at[k] == 0x5C)
             o->at[k] = '/';
-    if (o->n > 0 && one_in(8))
-        o->at[one_in(3) ? 0 : one_in(2) ? o->n - 1 : below(o->n)] = 0x5C;
+    if (o->n == 0 || one_in(2))
+        return;
+    switch (below(5)) {
+    case 0:
+        o->at[0] = 0x5C;
+        break;
+    case 1:
+        o->at[o->n - 1] = 0x5C;
+        break;
+    case 2:
+        o->at[below(o->n)] = 0x5C;
+        break;
+    case 3:
+        for (int k = 0; k < 4; k++)
+            o->at[below(o->n)] = 0x5C;
+        break;
+    default:
+        memset(o->at, 0x5C, o->n);
+    }
 }
 
 /* Mostly short; now and then of any length, or at 65,535 and 65,536. */

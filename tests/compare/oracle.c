@@ -222,17 +222,24 @@ int oracle_hash_hash(part hash, octet out[HASH])
     return oracle_md4(hash, out);
 }
 
-/* First 8 octets of SHA-1 over peer challenge, authenticator challenge and name (8.2): "3, 9". */
+/* What is hashed of a name: "Where a name holds 0x5C, hash only what follows the first one" (02, M-100). */
+static part user_of(part name)
+{
+    for (size_t k = 0; k < name.n; k++)
+        if (name.at[k] == 0x5C)
+            return of(name.at + k + 1, name.n - k - 1);
+    return name;
+}
+
+/* First 8 octets of SHA-1 over peer challenge, authenticator challenge and name (8.2); 3 by the whole name. */
 int oracle_challenge_hash(part peer, part authenticator, part name, octet out[CHALLENGE_HASH])
 {
-    const part parts[] = {peer, authenticator, name};
+    const part parts[] = {peer, authenticator, user_of(name)};
     octet whole[SHA1_OCTETS];
 
     memset(out, 0, CHALLENGE_HASH);
     if (peer.n != CHALLENGE || authenticator.n != CHALLENGE || name.n > LONGEST_NAME)
         return SIZE;
-    if (name.n > 0 && memchr(name.at, 0x5C, name.n))
-        return DOMAIN;
     sha1_of(parts, 3, whole);
     memcpy(out, whole, CHALLENGE_HASH);
     return DONE;
@@ -252,7 +259,7 @@ int oracle_challenge_response(part challenge, part hash, octet out[NT_RESPONSE])
     return DONE;
 }
 
-/* The password hash and the challenge hash that a response and a string are made of: "3, 9". */
+/* The password hash and the challenge hash that a response and a string are made of: 3. */
 static int both_hashes(part password, part peer, part authenticator, part name, octet hash[HASH], octet challenge[CHALLENGE_HASH])
 {
     int number = oracle_password_hash(password, hash);

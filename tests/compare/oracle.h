@@ -21,7 +21,7 @@ typedef struct {
 } buffer;
 
 /* The numbers a call may answer. */
-enum { DONE, SHAPE, ROOM, SIZE, PROTOCOL, FLAGS, REPEAT, RECORD, STRENGTH, DOMAIN };
+enum { DONE, SHAPE, ROOM, SIZE, PROTOCOL, FLAGS, REPEAT, RECORD, STRENGTH };
 
 /* Lengths. */
 enum {

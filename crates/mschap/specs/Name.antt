@@ -11,10 +11,6 @@ use Rattle.mschap.specs.Lengths.{longestName}
 abbrev pub backslash : ℕ
 backslash = 0x5C
 
--- "the limit of 256 is still tested on the whole name, first"
-abbrev pub nameRows : List ℕ → List (ℕ × Bool)
-nameRows name = (size, ltb longestName (length name)) ∷ []
-
 -- whether an octet is among others
 unfoldable pub holds : ℕ → List ℕ → Bool
 holds x [] = false
@@ -29,3 +25,7 @@ behind x (y ∷ ys) = pick (eqb y x) ys (behind x ys)
 -- "Where a name holds 0x5C, hash only what follows the first one"
 unfoldable pub hashedName : List ℕ → List ℕ
 hashedName name = pick (holds backslash name) (behind backslash name) name
+
+-- "the limit of 256 is still tested on the whole name, first"
+abbrev pub nameRows : List ℕ → List (ℕ × Bool)
+nameRows name = (size, ltb longestName (length name)) ∷ []

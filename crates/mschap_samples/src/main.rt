@@ -24,15 +24,17 @@ fn named(authenticator: &[u8], peer: &[u8], text: &[u8]) {
     samples(authenticator, peer);
     names(authenticator, peer, text);
     domains(authenticator, peer);
+    backslashes(authenticator, peer);
     passwords(authenticator, peer, text);
     received(authenticator, peer, text);
 }
 
-// Sections 9.2 and 9.3.
+// Sections 9.2, also with a domain in front of its user, and 9.3.
 fn samples(authenticator: &[u8], peer: &[u8]) {
     let password = b"c\x00l\x00i\x00e\x00n\x00t\x00P\x00a\x00s\x00s\x00";
     all(authenticator, peer, b"User", password);
     others(authenticator, peer, b"User", password);
+    all(authenticator, peer, b"NORTH\\User", password);
     keys(b"M\x00y\x00P\x00w\x00");
 }
 
@@ -154,13 +156,54 @@ fn names(authenticator: &[u8], peer: &[u8], text: &[u8]) {
     }
 }
 
-// Names with a domain in front, and one that is too long as well.
+// Names with 0x5C once, several times and alone, in front, within and at the end, and one without.
 fn domains(authenticator: &[u8], peer: &[u8]) {
-    all(authenticator, peer, b"BIGCO\\johndoe", b"p\x00w\x00");
-    all(authenticator, peer, b"\\", b"p\x00w\x00");
-    all(authenticator, peer, &[0x5Cu8; 256], b"p\x00w\x00");
-    all(authenticator, peer, &[0x5Cu8; 257], b"p\x00w\x00");
+    short(authenticator, peer, b"BIGCO\\johndoe");
+    short(authenticator, peer, b"johndoe");
+    short(authenticator, peer, b"\\");
+    short(authenticator, peer, b"\\\\");
+    short(authenticator, peer, b"\\pump4");
+    short(authenticator, peer, b"NORTH\\");
+    short(authenticator, peer, b"A\\B\\c");
+    short(authenticator, peer, b"B\\c");
+    short(authenticator, peer, b"\\A\\B\\");
     all(authenticator, peer, b"BIGCO\\johndoe", b"p\x00w");
+}
+
+// One name, with a password of two characters.
+fn short(authenticator: &[u8], peer: &[u8], name: &[u8]) {
+    all(authenticator, peer, name, b"p\x00w\x00");
+}
+
+// Names of 256 octets, and of 257, which are refused whatever follows a 0x5C: all octets 0x5C, and those of one place or two.
+fn backslashes(authenticator: &[u8], peer: &[u8]) {
+    short(authenticator, peer, &[0x5Cu8; 256]);
+    short(authenticator, peer, &[0x5Cu8; 257]);
+    long(authenticator, peer, 0, 0);
+    long(authenticator, peer, 128, 128);
+    long(authenticator, peer, 255, 255);
+    long(authenticator, peer, 256, 256);
+    long(authenticator, peer, 100, 200);
+}
+
+// A name with 0x5C in two places, its first 256 octets and all 257.
+fn long(authenticator: &[u8], peer: &[u8], a: usize, b: usize) {
+    let name = with_backslashes(a, b);
+    short(authenticator, peer, front(&name, 256));
+    short(authenticator, peer, &name);
+}
+
+// 257 octets of the text with 0x5C in two places.
+fn with_backslashes(a: usize, b: usize) -> [u8; 257] {
+    let mut name = [0u8; 257];
+    fill(&mut name);
+    if a < 257 {
+        name[a] = 0x5C;
+    }
+    if b < 257 {
+        name[b] = 0x5C;
+    }
+    name
 }
 
 // Passwords of all lengths.
