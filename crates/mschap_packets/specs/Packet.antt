@@ -106,7 +106,8 @@ responseRead packet =
     })
     (record { answer = code; identifier = 0; «peer_challenge» = replicate 16 0; «nt_response» = replicate 24 0 })
 
--- the name: "that part of the caller's packet", from the end of the value to the length field; "a refused packet gives the empty part"
+-- the name: "that part of the caller's packet", from the end of the value to the length field; "a refused packet gives the empty part";
+-- "The part returned from a packet stays the whole name" (02, M-100)
 unfoldable pub nameOf : Kind → List ℕ → List ℕ
 nameOf kind packet =
     onDone (readCode kind packet) (part (leastLength kind) (lengthField packet - leastLength kind) packet) []

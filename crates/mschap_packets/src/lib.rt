@@ -78,7 +78,7 @@ pub fn read_response(packet: &[u8]) -> Response
     }
 }
 
-// The name in a packet, as that part of the packet; the empty part where it is refused.
+// The whole name in a packet, with its domain where it has one, as that part of the packet; the empty part where it is refused.
 pub fn name(kind: Kind, packet: &[u8]) -> &[u8]
     ensures { λ r. ⌜ (now r ≡ nameOf kind (now (packet .entry)))
         × (r .ptr ≡ onward (nameAt kind (now (packet .entry))) (packet .entry .ptr)) ⌝ }
