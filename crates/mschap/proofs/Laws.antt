@@ -35,14 +35,14 @@ use Rattle.mschap.specs.Lengths.{longestPassword, longestName}
 use Rattle.mschap.specs.Name.{backslash, holds, nameRows, hashedName}
 use Rattle.mschap.specs.Mschap.{passwordHash, hashHash, challengeHash, zPasswordHash, challengeResponse, ntResponse, magic1, magic2, hexDigit, hexDigits, encoded, signature, authenticatorString, equal}
 use Rattle.mschap.specs.Answers.{passwordRows, responseRows, stringRows, hashAnswer, challengeAnswer, responseAnswer, stringAnswer, checkAnswer, ntResponseAnswer, authenticatorStringAnswer, checkResponseAnswer, checkAuthenticatorAnswer}
-use Rattle.mschap.specs.Laws.{holds-append, hashed-whole, hashed-behind, hashed-short, name-fits, hexDigits-length}
+use Rattle.mschap.specs.Laws.{holds-append, hashed-whole, hashed-user, hashed-short, name-fits, hexDigits-length}
 
 -- a name looked through up to a place: 0x5C stands there, another octet does, and the name ends
-pub user-behind : (name : List ℕ) (i : ℕ) → holds backslash (take i name) ≡ false → getD name i 0 ≡ backslash → i < length name
+pub user-found : (name : List ℕ) (i : ℕ) → holds backslash (take i name) ≡ false → getD name i 0 ≡ backslash → i < length name
     → drop (i + 1) name ≡ hashedName name
-user-behind name i none e h =
+user-found name i none e h =
     let parts : name ≡ take i name ++ backslash ∷ drop (i + 1) name = split-at name i 0 h ∙ rw (e, add-one) in
-    sym (ap hashedName parts ∙ hashed-behind (take i name) (drop (i + 1) name) none)
+    sym (ap hashedName parts ∙ hashed-user (take i name) (drop (i + 1) name) none)
 
 pub none-so-far : (name : List ℕ) (i : ℕ) → holds backslash (take i name) ≡ false → (getD name i 0 ≡ backslash → ⊥) → i < length name
     → holds backslash (take (i + 1) name) ≡ false

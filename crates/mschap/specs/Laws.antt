@@ -20,7 +20,7 @@ use Rattle.mschap.specs.declared.NtResponse.{NtResponse}
 use Rattle.mschap.specs.declared.AuthenticatorString.{AuthenticatorString}
 use Rattle.mschap.specs.declared.Checked.{Checked}
 use Rattle.mschap.specs.Lengths.{longestPassword, longestName, challengeLength, responseLength, hashLength, challengeHashLength, stringLength}
-use Rattle.mschap.specs.Name.{backslash, holds, behind, nameRows, hashedName}
+use Rattle.mschap.specs.Name.{backslash, holds, following, nameRows, hashedName}
 use Rattle.mschap.specs.Mschap.{passwordHash, hashHash, challengeHash, zPasswordHash, challengeResponse, ntResponse, hexDigits, encoded, signature, authenticatorString, equal}
 use Rattle.mschap.specs.Answers.{passwordRows, challengeRows, responseRows, stringRows, hashAnswer, challengeAnswer, responseAnswer, stringAnswer, checkAnswer, passwordHashAnswer, hashHashAnswer, challengeHashAnswer, challengeResponseAnswer, ntResponseAnswer, authenticatorStringAnswer, checkResponseAnswer, checkAuthenticatorAnswer}
 
@@ -75,22 +75,22 @@ holds-append x [] b = refl
 holds-append x (y ∷ a) b = rw (holds-append x a b, or-assoc (eqb y x) (holds x a) (holds x b))
 
 -- what follows the first of an octet
-behind-first : (x : ℕ) (a b : List ℕ) → holds x a ≡ false → behind x (a ++ x ∷ b) ≡ b
-unfolding holds behind
-behind-first x [] b e = rw (eq-eqb x x refl)
-behind-first x (y ∷ a) b e = go (eqb y x) e (behind-first x a b)
+following-first : (x : ℕ) (a b : List ℕ) → holds x a ≡ false → following x (a ++ x ∷ b) ≡ b
+unfolding holds following
+following-first x [] b e = rw (eq-eqb x x refl)
+following-first x (y ∷ a) b e = go (eqb y x) e (following-first x a b)
   where
-    go : (t : Bool) → (t || holds x a) ≡ false → (holds x a ≡ false → behind x (a ++ x ∷ b) ≡ b)
-        → pick t (a ++ x ∷ b) (behind x (a ++ x ∷ b)) ≡ b
+    go : (t : Bool) → (t || holds x a) ≡ false → (holds x a ≡ false → following x (a ++ x ∷ b) ≡ b)
+        → pick t (a ++ x ∷ b) (following x (a ++ x ∷ b)) ≡ b
     go true e rest = absurd (true≢false e)
     go false e rest = rest e
 
-behind-short : (x : ℕ) (l : List ℕ) → length (behind x l) ≤ length l
-unfolding behind
-behind-short x [] = omega arith
-behind-short x (y ∷ l) = go (eqb y x) (behind-short x l)
+following-short : (x : ℕ) (l : List ℕ) → length (following x l) ≤ length l
+unfolding following
+following-short x [] = omega arith
+following-short x (y ∷ l) = go (eqb y x) (following-short x l)
   where
-    go : (t : Bool) → length (behind x l) ≤ length l → length (pick t l (behind x l)) ≤ length (y ∷ l)
+    go : (t : Bool) → length (following x l) ≤ length l → length (pick t l (following x l)) ≤ length (y ∷ l)
     go true h = omega arith
     go false h = omega arith
 
@@ -100,17 +100,17 @@ unfolding hashedName
 hashed-whole name e = rw e
 
 -- .. and of any other what follows its first 0x5C: nothing where that is its last octet; a second 0x5C is an octet like any other
-pub hashed-behind : (domain user : List ℕ) → holds backslash domain ≡ false → hashedName (domain ++ backslash ∷ user) ≡ user
+pub hashed-user : (domain user : List ℕ) → holds backslash domain ≡ false → hashedName (domain ++ backslash ∷ user) ≡ user
 unfolding hashedName holds
-hashed-behind domain user e =
-    rw (holds-append backslash domain (backslash ∷ user), or-true (holds backslash domain)) (behind-first backslash domain user e)
+hashed-user domain user e =
+    rw (holds-append backslash domain (backslash ∷ user), or-true (holds backslash domain)) (following-first backslash domain user e)
 
 pub hashed-short : (name : List ℕ) → length (hashedName name) ≤ length name
 unfolding hashedName
 hashed-short name = go (holds backslash name)
   where
-    go : (t : Bool) → length (pick t (behind backslash name) name) ≤ length name
-    go true = behind-short backslash name
+    go : (t : Bool) → length (pick t (following backslash name) name) ≤ length name
+    go true = following-short backslash name
     go false = omega arith
 
 -- rows that do not apply
@@ -264,7 +264,7 @@ pub domain-ignored : (domain user : List ℕ) → holds backslash domain ≡ fal
     → length (domain ++ backslash ∷ user) ≤ longestName → SameAnswers (domain ++ backslash ∷ user) user
 domain-ignored domain user ed eu h =
     let all = length-append domain (backslash ∷ user) in
-    same-answers (domain ++ backslash ∷ user) user h (omega (arith, all)) (hashed-behind domain user ed ∙ sym (hashed-whole user eu))
+    same-answers (domain ++ backslash ∷ user) user h (omega (arith, all)) (hashed-user domain user ed ∙ sym (hashed-whole user eu))
 
 -- 9 is given by none of them
 pub domain-never : (password response peer authenticator name received : List ℕ)

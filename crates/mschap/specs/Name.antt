@@ -17,14 +17,14 @@ holds x [] = false
 holds x (y ∷ ys) = eqb y x || holds x ys
 
 -- what follows the first of an octet among others
-unfoldable pub behind : ℕ → List ℕ → List ℕ
-behind x [] = []
-behind x (y ∷ ys) = pick (eqb y x) ys (behind x ys)
+unfoldable pub following : ℕ → List ℕ → List ℕ
+following x [] = []
+following x (y ∷ ys) = pick (eqb y x) ys (following x ys)
 
 -- 8.2: "Only the user name (as presented by the peer and excluding any prepended domain name)";
 -- "Where a name holds 0x5C, hash only what follows the first one"
 unfoldable pub hashedName : List ℕ → List ℕ
-hashedName name = pick (holds backslash name) (behind backslash name) name
+hashedName name = pick (holds backslash name) (following backslash name) name
 
 -- "the limit of 256 is still tested on the whole name, first"
 abbrev pub nameRows : List ℕ → List (ℕ × Bool)

@@ -5,7 +5,7 @@ use Prim.Native.Nat.{_-_, _≤_}
 use native.Mathlib.Omega.{arith}
 use lib.ListN.{length, take}
 use Rattle.mschap.specs.Name.{backslash, holds}
-use Rattle.mschap.proofs.Laws.{user-behind, none-so-far, whole-name}
+use Rattle.mschap.proofs.Laws.{user-found, none-so-far, whole-name}
 use Rattle.mschap.proofs.user_start.Statement.{statement}
 use Rattle.mschap.proofs.user_start.Tie as tie
 
@@ -26,7 +26,7 @@ add-result : tie.Need-add-result Inv-loop μ-loop
 add-result c = search needs
 
 returns : tie.Need-returns Inv-loop μ-loop
-returns c = let l = c .before .before .before .loop in (user-behind _ (l .i) (l .inv .1) (c .if1 .taken) (omega arith), omega arith)
+returns c = let l = c .before .before .before .loop in (user-found _ (l .i) (l .inv .1) (c .if1 .taken) (omega arith), omega arith)
 
 add-i : tie.Need-add-i Inv-loop μ-loop
 add-i c = search needs
