@@ -35,7 +35,7 @@ use Rattle.mschap.specs.Lengths.{longestPassword, longestName}
 use Rattle.mschap.specs.Name.{backslash, holds, nameRows, hashedName}
 use Rattle.mschap.specs.Mschap.{passwordHash, hashHash, challengeHash, zPasswordHash, challengeResponse, ntResponse, magic1, magic2, hexDigit, hexDigits, encoded, signature, authenticatorString, equal}
 use Rattle.mschap.specs.Answers.{passwordRows, responseRows, stringRows, hashAnswer, challengeAnswer, responseAnswer, stringAnswer, checkAnswer, ntResponseAnswer, authenticatorStringAnswer, checkResponseAnswer, checkAuthenticatorAnswer}
-use Rattle.mschap.specs.Laws.{holds-append, hashed-whole, hashed-user, hashed-short, name-fits, hexDigits-length}
+use Rattle.mschap.specs.Laws.{holds-append, hashed-whole, hashed-user, hashed-short, hexDigits-length}
 
 -- a name looked through up to a place: 0x5C stands there, another octet does, and the name ends
 pub user-found : (name : List ℕ) (i : ℕ) → holds backslash (take i name) ≡ false → getD name i 0 ≡ backslash → i < length name
@@ -241,13 +241,6 @@ pub string-told : {x : AuthenticatorString} (code : ℕ) (string : List ℕ) →
 unfolding stringAnswer
 string-told code string e =
     told (λ (x : AuthenticatorString). x .answer) (λ (x : AuthenticatorString). x .octets) (stringAnswer code string) code string (replicate 42 0) e refl refl
-
--- the rows of a name
-pub name-long : (name : List ℕ) → longestName < length name → size ≡ firstOf (nameRows name)
-name-long name h = rw (lt-ltb longestName (length name) h)
-
-pub name-done : (name : List ℕ) → length name ≤ longestName → done ≡ firstOf (nameRows name)
-name-done name h = sym (name-fits name h)
 
 -- what is hashed of a name is no longer than a name may be
 pub name-short : {code : ℕ} (name : List ℕ) → code ≡ firstOf (nameRows name) → code ≡ done → length (hashedName name) ≤ longestName
