@@ -1,4 +1,4 @@
--- The numbers a call may answer (01, "Numbers a call may answer"), and how a call picks one.
+-- The numbers a call may answer (01, "Numbers a call may answer", and 02), and how a call picks one.
 use mathlib.Core.Bool.{Bool, true, false, not}
 use mathlib.Core.List.{List, [], _∷_}
 use Prim.Native.Nat.{ℕ, zero, suc}
@@ -35,6 +35,10 @@ strength = 8
 -- no longer given (02, M-100); it keeps its number, so that no other refusal is ever 9
 abbrev pub domain : ℕ
 domain = 9
+
+-- "2,049 to 4,095 are refused with 10, late" (02, M-101)
+abbrev pub late : ℕ
+late = 10
 
 -- the first where the test holds, else the second
 abbrev pub pick : {A : Type 0} → Bool → A → A → A

@@ -1,4 +1,4 @@
-// The numbers a call may answer (01, "Numbers a call may answer"). specs/Answer.antt has the same numbers for contracts.
+// The numbers a call may answer (01, "Numbers a call may answer", and 02). specs/Answer.antt has the same numbers for contracts.
 
 // No refusal applies.
 pub const DONE: u8 = 0;
@@ -20,3 +20,5 @@ pub const RECORD: u8 = 7;
 pub const STRENGTH: u8 = 8;
 // A user name to be hashed holds 0x5C: no longer given (02, M-100). The number keeps its row, so that no other refusal is ever 9.
 pub const DOMAIN: u8 = 9;
+// The count is farther ahead of the last one than is opened: that of a packet that comes late (02, M-101).
+pub const LATE: u8 = 10;

@@ -199,13 +199,13 @@ seal-finished {code} {count} {next} {cipher} {out₁} {ys} l plain out e z ec en
     rw (← e, z, is) (refl, behind-put head (rc4 key plain) out eh run-is refl)
 
 -- a packet refused by its shape or for its record
-pub open-refused : {code : ℕ} {r : Outcome} (limit : ℕ) (l : Link) (packet out : List ℕ) → code ≡ frontCode limit l packet → (code ≡ done → ⊥)
-    → r ≡ refusal code l [] .outcome → Gives r out (openResult limit l packet out)
+pub open-refused : {code : ℕ} {r : Outcome} (limit far : ℕ) (l : Link) (packet out : List ℕ) → code ≡ frontCode limit l packet → (code ≡ done → ⊥)
+    → r ≡ refusal code l [] .outcome → Gives r out (openResult limit far l packet out)
 unfolding openResult openCode frontCode
-open-refused limit l packet out e h er =
+open-refused limit far l packet out e h er =
     let h′ : ℕ = headerIn packet in
-    let stop = rows-stop (frontRows limit l packet) (headerRows l h′ ++ dataRows l h′ (dataIn packet) (length out)) λ z. h (e ∙ z) in
-    refused-is _ (openCode limit l packet (length out)) l out (unfold openCode in e ∙ sym stop) h er
+    let stop = rows-stop (frontRows limit l packet) (headerRows far l h′ ++ dataRows l h′ (dataIn packet) (length out)) λ z. h (e ∙ z) in
+    refused-is _ (openCode limit far l packet (length out)) l out (unfold openCode in e ∙ sym stop) h er
 
 -- a record and a packet that these rows let pass
 pub front-passed : {code : ℕ} (limit : ℕ) (l : Link) (packet : List ℕ) → code ≡ frontCode limit l packet → code ≡ done
@@ -228,35 +228,35 @@ data-bounds packet low high =
     rw (data-part packet) (omega (arith, long), omega (arith, long))
 
 -- .. leave it to those for header and data
-pub open-passed : {code h : ℕ} {r : Outcome} {out₁ : List ℕ} (limit : ℕ) (l : Link) (packet out : List ℕ) → code ≡ frontCode limit l packet → code ≡ done
-    → h ≡ headerIn packet → Gives r out₁ (dataResult l h (take (length packet - front) (drop front packet)) out)
-    → Gives r out₁ (openResult limit l packet out)
+pub open-passed : {code h : ℕ} {r : Outcome} {out₁ : List ℕ} (limit far : ℕ) (l : Link) (packet out : List ℕ) → code ≡ frontCode limit l packet → code ≡ done
+    → h ≡ headerIn packet → Gives r out₁ (dataResult far l h (take (length packet - front) (drop front packet)) out)
+    → Gives r out₁ (openResult limit far l packet out)
 unfolding openResult openCode frontCode dataResult
-open-passed limit l packet out e z eh made =
+open-passed limit far l packet out e z eh made =
     let h′ : ℕ = headerIn packet in
-    let pass = rows-pass (frontRows limit l packet) (headerRows l h′ ++ dataRows l h′ (dataIn packet) (length out)) refl (sym e ∙ z) in
+    let pass = rows-pass (frontRows limit l packet) (headerRows far l h′ ++ dataRows l h′ (dataIn packet) (length out)) refl (sym e ∙ z) in
     rw pass (rw (eh, data-part packet) at made)
 
 -- data refused by a row before the last
-pub data-refused : {code far : ℕ} {r : Outcome} (l : Link) (h : ℕ) (text out : List ℕ) → far ≡ changesFor l h
-    → code ≡ headerCode h far (length text) (length out) → (code ≡ done → ⊥) → r ≡ refusal code l [] .outcome → Gives r out (dataResult l h text out)
+pub data-refused : {code away : ℕ} {r : Outcome} (far : ℕ) (l : Link) (h : ℕ) (text out : List ℕ) → away ≡ changesFor l h
+    → code ≡ headerCode far h away (length text) (length out) → (code ≡ done → ⊥) → r ≡ refusal code l [] .outcome → Gives r out (dataResult far l h text out)
 unfolding dataResult headerCode
-data-refused {code} l h text out ef e some er =
-    let rows : List (ℕ × Bool) = roomRows h (changesFor l h) (length text) (length out) in
+data-refused {code} far l h text out ef e some er =
+    let rows : List (ℕ × Bool) = roomRows far h (changesFor l h) (length text) (length out) in
     let last : List (ℕ × Bool) = (protocol, offProtocol (plainFor l h text)) ∷ [] in
     let e′ : code ≡ firstOf rows = e ∙ rw ef in
     refused-is _ (firstOf (rows ++ last)) l out (e′ ∙ sym (rows-stop rows last λ z. some (e′ ∙ z))) some er
 
 -- data that these rows let pass: the key is changed, there is room, and the last row decides
-pub data-passed : {code : ℕ} (far : ℕ) (l : Link) (h : ℕ) (text : List ℕ) (lent : ℕ) → code ≡ headerCode h far (length text) lent → code ≡ done
-    → (far ≡ 0 → ⊥) × (length text ≤ lent)
-    × (far ≡ changesFor l h → firstOf (headerRows l h ++ dataRows l h text lent) ≡ firstOf ((protocol, offProtocol (plainFor l h text)) ∷ []))
+pub data-passed : {code : ℕ} (far away : ℕ) (l : Link) (h : ℕ) (text : List ℕ) (lent : ℕ) → code ≡ headerCode far h away (length text) lent → code ≡ done
+    → (away ≡ 0 → ⊥) × (length text ≤ lent)
+    × (away ≡ changesFor l h → firstOf (headerRows far l h ++ dataRows l h text lent) ≡ firstOf ((protocol, offProtocol (plainFor l h text)) ∷ []))
 unfolding headerCode
-data-passed far l h text lent e z =
-    let rows : List (ℕ × Bool) = roomRows h far (length text) lent in
+data-passed far away l h text lent e z =
+    let rows : List (ℕ × Bool) = roomRows far h away (length text) lent in
     let last : List (ℕ × Bool) = (protocol, offProtocol (plainFor l h text)) ∷ [] in
     let zero = sym e ∙ z in
-    (eqb-false far 0 (clear repeat rows refl zero .0), ltb-false lent (length text) (clear room rows refl zero .0), λ ef. rw (← ef) (rows-pass rows last refl zero))
+    (eqb-false away 0 (clear repeat rows refl zero .0), ltb-false lent (length text) (clear room rows refl zero .0), λ ef. rw (← ef) (rows-pass rows last refl zero))
 
 -- a key that is changed at least once has its strength's octets
 changed-length : (s : Strength) (start session : List ℕ) (n : ℕ) → (n ≡ 0 → ⊥) → length (changes s start n session) ≡ keyLength s
@@ -266,15 +266,15 @@ changed-length s start session (suc n) h = keyChange-length s start (changes s s
 
 -- what code works out of a header: the record after it, and its cipher
 abbrev pub Worked : Link → ℕ → ℕ → Link → Rc4 → Type 0
-Worked l h far next cipher =
-    (far ≡ changesFor l h)
-    × (next ≡ renewed l (changes (l .strength) (startKeyIn l) far (sessionKeyIn l)) (countOf h))
+Worked l h away next cipher =
+    (away ≡ changesFor l h)
+    × (next ≡ renewed l (changes (l .strength) (startKeyIn l) away (sessionKeyIn l)) (countOf h))
     × (cipher ≡ keySchedule (sessionKeyIn next))
 
-worked-is : {next : Link} {cipher : Rc4} (far : ℕ) (l : Link) (h : ℕ) → Worked l h far next cipher → (far ≡ 0 → ⊥)
+worked-is : {next : Link} {cipher : Rc4} (away : ℕ) (l : Link) (h : ℕ) → Worked l h away next cipher → (away ≡ 0 → ⊥)
     → (next ≡ linkAfter l h) × (cipher ≡ keySchedule (keyFor l h))
 unfolding keyFor
-worked-is {next} far l h (ef, en, ec) new =
+worked-is {next} away l h (ef, en, ec) new =
     let is : next ≡ linkAfter l h = unfold keyFor in en ∙ rw ef in
     let long = changed-length (l .strength) (startKeyIn l) (sessionKeyIn l) (changesFor l h) λ z. new (ef ∙ z) in
     (is, ec ∙ rw (is, key-back (l .strength) (keyFor l h) long))
@@ -285,28 +285,28 @@ unfolding plainFor
 deciphered l h text keyed = ap (λ (s : Rc4). run s text) keyed
 
 -- data refused by the last row
-pub data-off : {code far : ℕ} {next : Link} {cipher : Rc4} {off : Bool} {r : Outcome} (l : Link) (h : ℕ) (text out : List ℕ)
-    → code ≡ headerCode h far (length text) (length out) → code ≡ done → Worked l h far next cipher
-    → off ≡ offProtocol (run cipher text) → off ≡ true → r ≡ refusal protocol l [] .outcome → Gives r out (dataResult l h text out)
+pub data-off : {code away : ℕ} {next : Link} {cipher : Rc4} {off : Bool} {r : Outcome} (far : ℕ) (l : Link) (h : ℕ) (text out : List ℕ)
+    → code ≡ headerCode far h away (length text) (length out) → code ≡ done → Worked l h away next cipher
+    → off ≡ offProtocol (run cipher text) → off ≡ true → r ≡ refusal protocol l [] .outcome → Gives r out (dataResult far l h text out)
 unfolding dataResult
-data-off {code} {far} l h text out e z made eo t er =
-    let (new, fits, last) = data-passed far l h text (length out) e z in
-    let (is, keyed) = worked-is far l h made new in
+data-off {code} {away} far l h text out e z made eo t er =
+    let (new, fits, last) = data-passed far away l h text (length out) e z in
+    let (is, keyed) = worked-is away l h made new in
     let off : offProtocol (plainFor l h text) ≡ true = ap offProtocol (sym (deciphered l h text keyed)) ∙ sym eo ∙ t in
-    let code : protocol ≡ firstOf (headerRows l h ++ dataRows l h text (length out)) = sym (last (made .0) ∙ rw off) in
-    refused-is _ (firstOf (headerRows l h ++ dataRows l h text (length out))) l out code (λ q. omega (arith, q)) er
+    let code : protocol ≡ firstOf (headerRows far l h ++ dataRows l h text (length out)) = sym (last (made .0) ∙ rw off) in
+    refused-is _ (firstOf (headerRows far l h ++ dataRows l h text (length out))) l out code (λ q. omega (arith, q)) er
 
 -- data that are opened
-pub data-opened : {code far : ℕ} {next : Link} {cipher : Rc4} {off : Bool} {out₁ : List ℕ} (l : Link) (h : ℕ) (text out : List ℕ)
-    → code ≡ headerCode h far (length text) (length out) → code ≡ done → Worked l h far next cipher
+pub data-opened : {code away : ℕ} {next : Link} {cipher : Rc4} {off : Bool} {out₁ : List ℕ} (far : ℕ) (l : Link) (h : ℕ) (text out : List ℕ)
+    → code ≡ headerCode far h away (length text) (length out) → code ≡ done → Worked l h away next cipher
     → off ≡ offProtocol (run cipher text) → off ≡ false → out₁ ≡ runOut cipher text out → length text ≤ longestPlain
-    → Gives (record { answer = done; changes = far; link = next }) out₁ (dataResult l h text out)
+    → Gives (record { answer = done; changes = away; link = next }) out₁ (dataResult far l h text out)
 unfolding dataResult
-data-opened {code} {far} {next} {cipher} {off} {out₁} l h text out e z made eo t er small =
-    let (new, fits, last) = data-passed far l h text (length out) e z in
-    let (is, keyed) = worked-is far l h made new in
+data-opened {code} {away} {next} {cipher} {off} {out₁} far l h text out e z made eo t er small =
+    let (new, fits, last) = data-passed far away l h text (length out) e z in
+    let (is, keyed) = worked-is away l h made new in
     let plain = deciphered l h text keyed in
     let off : offProtocol (plainFor l h text) ≡ false = ap offProtocol (sym plain) ∙ sym eo ∙ t in
-    let code : firstOf (headerRows l h ++ dataRows l h text (length out)) ≡ done = last (made .0) ∙ rw off in
+    let code : firstOf (headerRows far l h ++ dataRows l h text (length out)) ≡ done = last (made .0) ∙ rw off in
     let ran : out₁ ≡ written (plainFor l h text) out = er ∙ run-done cipher text out (omega arith) fits .1 ∙ ap (λ (p : List ℕ). written p out) plain in
     rw (code, is, made .0) (refl, ran)

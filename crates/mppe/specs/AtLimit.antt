@@ -46,7 +46,7 @@ module _ (s : Strength) (start : List ℕ) where
   abbrev pub opens : List Packet → List OpenCall
   opens ps = arrival early (numbered s start ps early .octets) (replicate 2 0) ∷ arrival late (numbered s start ps late .octets) (replicate 2 0) ∷ []
 
-  pub meets : (n : ℕ) → late < n → Meets longestPlain s start (sealed n) mostLost 0 (first s start) (opens (sealed n))
+  pub meets : (n : ℕ) → late < n → Meets longestPlain farthest s start (sealed n) mostLost 0 (first s start) (opens (sealed n))
   unfolding Meets
   meets n h =
       let long = sealed-length n (beginning s start) in
@@ -60,6 +60,6 @@ module _ (s : Strength) (start : List ℕ) where
 
   -- both arrivals are as far as may be
   pub run-opens : newLink s start .answer ≡ done → (n : ℕ) → late < n
-      → map reported (openRun longestPlain (first s start) (opens (sealed n))) ≡ farthest ∷ farthest ∷ []
+      → map reported (openRun longestPlain farthest (first s start) (opens (sealed n))) ≡ farthest ∷ farthest ∷ []
   unfolding Demand3 due
   run-opens ok n h = ap (map reported) (demand-3-base s start ok (calls n) (opens (sealed n)) (meets n h) .1)

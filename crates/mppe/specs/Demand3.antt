@@ -1,4 +1,5 @@
--- Demand 3, proved: for every limit of a plain packet, and every number of packets lost in a row below the farthest distance.
+-- Demand 3, proved: for every limit of a plain packet, every farthest distance below the number of counts, and every number of packets
+-- lost in a row below it.
 use mathlib.Core.Path.{_≡_, refl, ap, subst, subst₂, _∙_}
 use mathlib.Core.Bool.{true, false}
 use mathlib.Core.Logic.{_≢_}
@@ -8,8 +9,8 @@ use native.Mathlib.Nat.{zero-add, add-zero}
 use native.Mathlib.Omega.{arith}
 use lib.Dec.{eqb, ltb, lit<}
 use lib.ListN.{length}
-use borrow.Author.Tests.{le-ltb, eq-eqb, ne-eqb}
-use Rattle.answer.specs.Answer.{done, size, protocol, repeat, outside, firstOf, onDone, wrong}
+use borrow.Author.Tests.{lt-ltb, le-ltb, eq-eqb, ne-eqb}
+use Rattle.answer.specs.Answer.{done, size, protocol, repeat, late, outside, firstOf, onDone, wrong}
 use Rattle.answer.specs.Laws.{clear, rows-pass, not-done, outside-none, within, right, right-length}
 use Rattle.octets.specs.Octets.{pairAt, written}
 use Rattle.rc4.specs.Cipher.{keySchedule}
@@ -19,7 +20,7 @@ use Rattle.mppe_keys.specs.Keys.{keyLength, initialKey, keyChange, changes, rc4
 use Rattle.mppe_keys.specs.Laws.{initialKey-length, initialKey-head, changes-length, changes-head, changes-add}
 use Rattle.mppe.specs.declared.Link.{Link}
 use Rattle.mppe.specs.Link.{shortestPlain, longestPlain, front, counts, newCount, farthest, wellFormed, startKeyIn, sessionKeyIn, renewed, nextKey, nextCount, linkOf, newLink, newLinkCode, offProtocol, bitA, bitD, sealedPacket, headerIn, dataIn, countOf, Result, finished, refusal, plainRows, sealCode, sealResult, changesFor, keyFor, plainFor, frontRows, headerRows, dataRows, openCode, openResult}
-use Rattle.mppe.specs.Laws.{key-back, well, sealed-length, sealed-header, header-count, header-A, header-D, distance-is}
+use Rattle.mppe.specs.Laws.{key-back, well, sealed-length, sealed-header, header-count, header-A, header-D, distance-is, distance-behind}
 use Rattle.mppe.specs.Run.{mostLost, SealCall, OpenCall, arrival, other, Packet, History, sealRun, openRun, saidCode, first, beginning, packetOf, onward, packets, said, numbered, Meets, due, Demand3}
 
 -- a packet that may be sealed: its plain packet is within the limit and has a protocol number that is carried
@@ -27,10 +28,10 @@ abbrev pub Sealable : ℕ → List ℕ → Type 0
 Sealable limit plain = (outside shortestPlain limit (length plain) ≡ false) × (offProtocol plain ≡ false)
 
 -- a call that the table refuses
-pub open-other : (limit : ℕ) (l : Link) (packet lent : List ℕ) → openCode limit l packet (length lent) ≢ done
-    → openResult limit l packet lent ≡ refusal (openCode limit l packet (length lent)) l lent
+pub open-other : (limit far : ℕ) (l : Link) (packet lent : List ℕ) → openCode limit far l packet (length lent) ≢ done
+    → openResult limit far l packet lent ≡ refusal (openCode limit far l packet (length lent)) l lent
 unfolding openResult
-open-other limit l packet lent not0 = not-done (openCode limit l packet (length lent)) _ (refusal (openCode limit l packet (length lent)) l lent) not0
+open-other limit far l packet lent not0 = not-done (openCode limit far l packet (length lent)) _ (refusal (openCode limit far l packet (length lent)) l lent) not0
 
 module _ (s : Strength) (start : List ℕ) where
   -- both ends as they are when m packets are sealed: the session key, the record, the history
@@ -111,7 +112,7 @@ module _ (s : Strength) (start : List ℕ) where
     abbrev headerAt : ℕ → ℕ
     headerAt q = bitA + bitD + q % counts
 
-    changes-at : (next q : ℕ) → next ≤ q → q - next < farthest → changesFor (recordAt next) (headerAt q) ≡ suc (q - next)
+    changes-at : (next q : ℕ) → next ≤ q → suc (q - next) < counts → changesFor (recordAt next) (headerAt q) ≡ suc (q - next)
     unfolding recordAt
     changes-at next q low near = rw (header-count (q % counts) (omega arith)) (distance-is next q low near)
 
@@ -122,6 +123,11 @@ module _ (s : Strength) (start : List ℕ) where
         let add : changes s start (suc (q - next)) (keyAt next) ≡ keyAt (next + suc (q - next)) =
         unfold keyAt in changes-add s start next (suc (q - next)) (initialKey s start) in
         rw (e, start-in next, session-in next) (add ∙ ap keyAt all)
+
+    -- .. of one that this packet has overtaken ..
+    behind-at : (next q : ℕ) → suc q < next → next - suc q < counts → changesFor (recordAt next) (headerAt q) ≡ counts - (next - suc q)
+    unfolding recordAt
+    behind-at next q low near = rw (header-count (q % counts) (omega arith)) (distance-behind next q low near)
 
     -- .. and of the packet that it opened last
     none-at : (q : ℕ) → changesFor (recordAt (suc q)) (headerAt q) ≡ 0
@@ -226,75 +232,87 @@ module _ (s : Strength) (start : List ℕ) where
           let pair : eqb (pairAt 0 packet) 0x00FD ≡ true = unfold packetAt sealedPacket in refl in
           rw (well-at m, whole, pair)
 
-      line-code : (m q : ℕ) (plain : List ℕ) (lent : ℕ) → Sealable limit plain
-          → openCode limit (recordAt m) (packetAt q plain .octets) lent
-          ≡ firstOf ((repeat, eqb (changesFor (recordAt m) (headerAt q)) 0) ∷ dataRows (recordAt m) (headerAt q) (rc4 (keyAt (suc q)) plain) lent)
+      -- `far` is the farthest distance that is opened
+      line-code : (far m q : ℕ) (plain : List ℕ) (lent : ℕ) → Sealable limit plain
+          → openCode limit far (recordAt m) (packetAt q plain .octets) lent
+          ≡ firstOf ((repeat, eqb (changesFor (recordAt m) (headerAt q)) 0) ∷ (late, ltb far (changesFor (recordAt m) (headerAt q))) ∷ dataRows (recordAt m) (headerAt q) (rc4 (keyAt (suc q)) plain) lent)
       unfolding openCode
-      line-code m q plain lent can =
+      line-code far m q plain lent can =
           let packet : List ℕ = packetAt q plain .octets in
           let h : ℕ = headerIn packet in
-          rows-pass (frontRows limit (recordAt m) packet) (headerRows (recordAt m) h ++ dataRows (recordAt m) h (dataIn packet) lent) refl (line-front m q plain can)
+          rows-pass (frontRows limit (recordAt m) packet) (headerRows far (recordAt m) h ++ dataRows (recordAt m) h (dataIn packet) lent) refl (line-front m q plain can)
           ∙ rw (line-header q plain, line-data q plain, header-A (q % counts) (omega arith), header-D (q % counts) (omega arith))
 
       -- an arrival opens as is due
-      pub open-arrival : (next q : ℕ) (plain lent : List ℕ) → Sealable limit plain → next ≤ q → q - next < farthest → length plain ≤ length lent
-          → openResult limit (recordAt next) (packetAt q plain .octets) lent
+      pub open-arrival : (far next q : ℕ) (plain lent : List ℕ) → far < counts → Sealable limit plain → next ≤ q → q - next < far → length plain ≤ length lent
+          → openResult limit far (recordAt next) (packetAt q plain .octets) lent
           ≡ finished (suc (q - next)) (recordAt (suc q)) (written plain lent)
       unfolding openResult
-      open-arrival next q plain lent can low near fits =
+      open-arrival far next q plain lent bound can low near fits =
           let text : List ℕ = rc4 (keyAt (suc q)) plain in
           let long : length text ≡ length plain = run-length (keySchedule (keyAt (suc q))) plain in
-          let made = changes-at next q low near in
+          let made = changes-at next q low (omega arith) in
           let key = key-at next q made low in
           let opened : plainFor (recordAt next) (headerAt q) text ≡ plain =
           unfold plainFor in rw key (run-twice (keySchedule (keyAt (suc q))) plain) in
           let new : eqb (changesFor (recordAt next) (headerAt q)) 0 ≡ false =
           ne-eqb (changesFor (recordAt next) (headerAt q)) 0 (λ z. omega (arith, made, z)) in
+          let close : ltb far (changesFor (recordAt next) (headerAt q)) ≡ false =
+          le-ltb far (changesFor (recordAt next) (headerAt q)) (omega (arith, made)) in
           let roomy : ltb (length lent) (length text) ≡ false = le-ltb (length lent) (length text) (omega (arith, long)) in
           let carried : offProtocol (plainFor (recordAt next) (headerAt q) text) ≡ false = rw opened (can .1) in
-          let code : openCode limit (recordAt next) (packetAt q plain .octets) (length lent) ≡ done =
-          line-code next q plain (length lent) can ∙ rw (new, roomy, carried) in
+          let code : openCode limit far (recordAt next) (packetAt q plain .octets) (length lent) ≡ done =
+          line-code far next q plain (length lent) can ∙ rw (new, close, roomy, carried) in
           rw (code, line-header q plain, line-data q plain, opened, made, key, header-count (q % counts) (omega arith), renewed-at next q)
 
       -- the packet that was opened last is a repeat
-      pub repeat-code : (q : ℕ) (plain : List ℕ) (lent : ℕ) → Sealable limit plain
-          → openCode limit (recordAt (suc q)) (packetAt q plain .octets) lent ≡ repeat
-      repeat-code q plain lent can =
-          line-code (suc q) q plain lent can ∙ rw (eq-eqb (changesFor (recordAt (suc q)) (headerAt q)) 0 (none-at q))
+      pub repeat-code : (far q : ℕ) (plain : List ℕ) (lent : ℕ) → Sealable limit plain
+          → openCode limit far (recordAt (suc q)) (packetAt q plain .octets) lent ≡ repeat
+      repeat-code far q plain lent can =
+          line-code far (suc q) q plain lent can ∙ rw (eq-eqb (changesFor (recordAt (suc q)) (headerAt q)) 0 (none-at q))
+
+      -- one that it has overtaken is late
+      pub late-code : (far next q : ℕ) (plain : List ℕ) (lent : ℕ) → Sealable limit plain → suc q < next → far + (next - suc q) < counts
+          → openCode limit far (recordAt next) (packetAt q plain .octets) lent ≡ late
+      late-code far next q plain lent can low near =
+          let made = behind-at next q low (omega arith) in
+          let away : ℕ = changesFor (recordAt next) (headerAt q) in
+          line-code far next q plain lent can
+          ∙ rw (ne-eqb away 0 (λ z. omega (arith, made, z)), lt-ltb far away (omega (arith, made)))
 
       -- the receiver's results
-      opens-all : (most : ℕ) (ps : List Packet) (next : ℕ) (cs : List OpenCall) → most < farthest
-          → AllAt 0 ps → Meets limit s start ps most next (recordAt next) cs
-          → openRun limit (recordAt next) cs ≡ due limit s start ps next (recordAt next) cs
+      opens-all : (far most : ℕ) (ps : List Packet) (next : ℕ) (cs : List OpenCall) → far < counts → most < far
+          → AllAt 0 ps → Meets limit far s start ps most next (recordAt next) cs
+          → openRun limit far (recordAt next) cs ≡ due limit far s start ps next (recordAt next) cs
       unfolding openRun due Meets
-      opens-all most ps next [] bound all line = refl
-      opens-all most ps next (arrival q octets lent ∷ cs) bound all (known, low, near, same, fits, rest) =
+      opens-all far most ps next [] bound below all line = refl
+      opens-all far most ps next (arrival q octets lent ∷ cs) bound below all (known, low, near, same, fits, rest) =
           let plain : List ℕ = numbered s start ps q .plain in
           let (at, can) = numbered-at 0 ps q all known in
           let is : numbered s start ps q ≡ packetAt q plain = rw (zero-add q) at at in
           let link : numbered s start ps q .link ≡ recordAt (suc q) = ap (λ (p : Packet). p .link) is ∙ unfold packetAt in refl in
-          let opened : openResult limit (recordAt next) octets lent ≡ finished (suc (q - next)) (recordAt (suc q)) (written plain lent) =
-          rw (same ∙ ap (λ (p : Packet). p .octets) is) (open-arrival next q plain lent can low (omega arith) fits) in
+          let opened : openResult limit far (recordAt next) octets lent ≡ finished (suc (q - next)) (recordAt (suc q)) (written plain lent) =
+          rw (same ∙ ap (λ (p : Packet). p .octets) is) (open-arrival far next q plain lent bound can low (omega arith) fits) in
           rw (opened, link)
           (ap (λ (rs : List Result). finished (suc (q - next)) (recordAt (suc q)) (written plain lent) ∷ rs)
-          (opens-all most ps (suc q) cs bound all (subst (λ (l : Link). Meets limit s start ps most (suc q) l cs) link rest)))
-      opens-all most ps next (other octets lent ∷ cs) bound all (not0, rest) =
-          let r : Result = refusal (openCode limit (recordAt next) octets (length lent)) (recordAt next) lent in
-          rw (open-other limit (recordAt next) octets lent not0)
-          (ap (λ (rs : List Result). r ∷ rs) (opens-all most ps next cs bound all rest))
+          (opens-all far most ps (suc q) cs bound below all (subst (λ (l : Link). Meets limit far s start ps most (suc q) l cs) link rest)))
+      opens-all far most ps next (other octets lent ∷ cs) bound below all (not0, rest) =
+          let r : Result = refusal (openCode limit far (recordAt next) octets (length lent)) (recordAt next) lent in
+          rw (open-other limit far (recordAt next) octets lent not0)
+          (ap (λ (rs : List Result). r ∷ rs) (opens-all far most ps next cs bound below all rest))
 
--- demand 3 for every limit and every number lost in a row below the farthest distance
-pub demand-3 : (limit most : ℕ) → most < farthest → Demand3 limit most
+-- demand 3 for every limit, every farthest distance and every number lost in a row below it
+pub demand-3 : (limit far most : ℕ) → far < counts → most < far → Demand3 limit far most
 unfolding Demand3
-demand-3 limit most bound s start ok seals opens line =
+demand-3 limit far most bound below s start ok seals opens line =
     let h = start-length s start ok in
     let sealed : List Packet = packets limit s start (historyAt s start 0) seals in
     let beginning-is : beginning s start ≡ historyAt s start 0 = unfold historyAt keyAt changes in refl in
-    let line-is : Meets limit s start sealed most 0 (recordAt s start 0) opens =
-    subst₂ (λ (b : History) (l : Link). Meets limit s start (packets limit s start b seals) most 0 l opens) beginning-is (first-is s start h) line in
+    let line-is : Meets limit far s start sealed most 0 (recordAt s start 0) opens =
+    subst₂ (λ (b : History) (l : Link). Meets limit far s start (packets limit s start b seals) most 0 l opens) beginning-is (first-is s start h) line in
     rw (first-is s start h, beginning-is)
-    (seals-all s start h limit 0 seals, opens-all s start h limit most sealed 0 opens bound (packets-at s start h limit 0 seals) line-is)
+    (seals-all s start h limit 0 seals, opens-all s start h limit far most sealed 0 opens bound below (packets-at s start h limit 0 seals) line-is)
 
--- demand 3 at the base's limits
-pub demand-3-base : Demand3 longestPlain mostLost
-demand-3-base = demand-3 longestPlain mostLost (lit< tt)
+-- demand 3 at the users' limits
+pub demand-3-base : Demand3 longestPlain farthest mostLost
+demand-3-base = demand-3 longestPlain farthest mostLost (lit< tt) (lit< tt)

@@ -6,12 +6,15 @@ use Prim.Native.Nat.{ℕ, zero, suc, _+_, _-_, _/_, _%_, _<_, _≤_}
 use native.Mathlib.Omega.{arith}
 use lib.ListN.{length, take, drop, getD, replicate}
 use lib.Seq.{take-append-seam, drop-append-seam}
-use borrow.Author.Tests.{lt-ltb, eq-eqb}
+use borrow.Author.Tests.{lt-ltb, eq-eqb, ltb-false}
+use Rattle.answer.specs.Answer.{late, firstOf}
+use Rattle.answer.specs.Laws.{clear}
 use Rattle.rc4.specs.Cipher.{keySchedule}
 use Rattle.rc4.specs.Laws.{run-length}
 use Rattle.mppe_keys.specs.declared.Strength.{Strength}
 use Rattle.mppe_keys.specs.Keys.{keyLength, headOf, begins, placed}
-use Rattle.mppe.specs.Link.{front, counts, newCount, zeros, wellFormed, linkOf, bitA, bitD, sealedPacket, headerIn, countOf, lacks, distance, farthest}
+use Rattle.mppe.specs.declared.Link.{Link}
+use Rattle.mppe.specs.Link.{front, counts, newCount, zeros, wellFormed, linkOf, bitA, bitD, sealedPacket, headerIn, countOf, lacks, dataIn, distance, changesFor, openRows, openCode, openedBy, openResult}
 
 -- both of two tests hold
 pub both : (a b : Bool) → a && b ≡ true → (a ≡ true) × (b ≡ true)
@@ -72,5 +75,21 @@ header-D count h =
     rw one
 
 -- the distance from the count that the record holds when `next` packets are sealed to the count of packet q
-pub distance-is : (next q : ℕ) → next ≤ q → q - next < farthest → distance ((next + newCount) % counts) (q % counts) ≡ suc (q - next)
+pub distance-is : (next q : ℕ) → next ≤ q → suc (q - next) < counts → distance ((next + newCount) % counts) (q % counts) ≡ suc (q - next)
 distance-is next q low near = omega arith
+
+-- .. and to that of a packet that the last one opened has overtaken
+pub distance-behind : (next q : ℕ) → suc q < next → next - suc q < counts → distance ((next + newCount) % counts) (q % counts) ≡ counts - (next - suc q)
+distance-behind next q low near = omega arith
+
+-- no report is above the farthest distance, whatever the record and the packet are
+pub reported : (limit far : ℕ) (l : Link) (packet out : List ℕ) → openResult limit far l packet out .outcome .changes ≤ far
+unfolding openResult openCode
+reported limit far l packet out = go (openCode limit far l packet (length out)) refl
+  where
+    rows : List (ℕ × Bool)
+    rows = openRows limit far l packet (length out)
+
+    go : (code : ℕ) → firstOf rows ≡ code → openedBy code l (headerIn packet) (dataIn packet) out .outcome .changes ≤ far
+    go zero e = ltb-false far (changesFor l (headerIn packet)) (clear late rows refl e .0)
+    go (suc n) e = omega arith

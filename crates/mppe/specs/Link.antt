@@ -1,11 +1,11 @@
 -- The link record, and what new link, seal and open give in stateless mode (01, "Keys" and "Packets and counts"; RFC 3078, 3 and 7).
--- A record is the code's own struct. `limit` is the longest plain packet.
+-- A record is the code's own struct. `limit` is the longest plain packet, `far` the farthest distance that is opened.
 use mathlib.Core.Bool.{Bool, true, false, not, _&&_}
 use mathlib.Core.List.{List, [], _∷_, _++_}
 use Prim.Native.Nat.{ℕ, _+_, _*_, _-_, _/_, _%_}
 use lib.Dec.{eqb, ltb}
 use lib.ListN.{length, take, drop, getD, replicate}
-use Rattle.answer.specs.Answer.{done, shape, room, size, protocol, flags, repeat, notRecord, pick, outside, wrong, firstOf, onDone}
+use Rattle.answer.specs.Answer.{done, shape, room, size, protocol, flags, repeat, notRecord, late, pick, outside, wrong, firstOf, onDone}
 use Rattle.octets.specs.Octets.{bigEndian, pairAt, written}
 use Rattle.mppe_keys.specs.declared.Strength.{Strength}
 use Rattle.mppe_keys.specs.Keys.{keyLength, headOf, begins, initialKey, rc4, keyChange, changes, placed}
@@ -112,9 +112,9 @@ lacks bit h = eqb (h / bit % 2) 0
 abbrev pub distance : ℕ → ℕ → ℕ
 distance last arrived = (arrived + counts - last) % counts
 
--- "Distance 0 is 6; 1 to 4,095 means that many key changes": the farthest that is opened
+-- "Distances 1 to 2,048 are opened" (02, M-101)
 abbrev pub farthest : ℕ
-farthest = 4095
+farthest = 2048
 
 -- what a call gives: its outcome, and the lent buffer after it
 pub record Result : Type 0 where
@@ -125,7 +125,7 @@ pub record Result : Type 0 where
 abbrev pub finished : ℕ → Link → List ℕ → Result
 finished changed l buffer = record { outcome = record { answer = done; changes = changed; link = l }; buffer = buffer }
 
--- "Refusals 1 to 9 hand back the record given and change no lent octet"; "on a refusal it is 0"
+-- "Refusals 1 to 9 hand back the record given and change no lent octet", and so does 10; "on a refusal it is 0"
 abbrev pub refusal : ℕ → Link → List ℕ → Result
 refusal code l buffer = record { outcome = record { answer = code; changes = 0; link = l }; buffer = buffer }
 
@@ -153,7 +153,7 @@ sealResult limit l plain out =
     (finished 1 (renewed l (nextKey l) (nextCount l)) (written (sealedPacket (nextKey l) (nextCount l) plain) out))
     (refusal code l out)
 
--- what a record makes of a header: as many key changes as the distance
+-- what a record makes of a header: "that many key changes" as the distance
 abbrev pub changesFor : Link → ℕ → ℕ
 changesFor l h = distance (l .count) (countOf h)
 
@@ -175,21 +175,22 @@ frontRows limit l packet =
     ∷ (shape, not (eqb (pairAt 0 packet) 0x00FD))
     ∷ []
 
--- .. those that the record and the header decide, 5, 6 ..
-abbrev pub headerRows : Link → ℕ → List (ℕ × Bool)
-headerRows l h = (flags, lacks bitA h) ∷ (flags, lacks bitD h) ∷ (repeat, eqb (changesFor l h) 0) ∷ []
+-- .. those that the record and the header decide, 5, 6, 10: "2,049 to 4,095 are refused with 10, late, tested right after 6" ..
+abbrev pub headerRows : ℕ → Link → ℕ → List (ℕ × Bool)
+headerRows far l h =
+    (flags, lacks bitA h) ∷ (flags, lacks bitD h) ∷ (repeat, eqb (changesFor l h) 0) ∷ (late, ltb far (changesFor l h)) ∷ []
 
 -- .. and those for which the data are wanted, 2, 4
 abbrev pub dataRows : Link → ℕ → List ℕ → ℕ → List (ℕ × Bool)
 dataRows l h text lent = (room, ltb lent (length text)) ∷ (protocol, offProtocol (plainFor l h text)) ∷ []
 
--- "Open: 7, 1, 5, 6, 2, 4"
-abbrev pub openRows : ℕ → Link → List ℕ → ℕ → List (ℕ × Bool)
-openRows limit l packet lent =
-    frontRows limit l packet ++ headerRows l (headerIn packet) ++ dataRows l (headerIn packet) (dataIn packet) lent
+-- "Open: 7, 1, 5, 6, 2, 4", with 10 behind 6
+abbrev pub openRows : (limit far : ℕ) → Link → List ℕ → ℕ → List (ℕ × Bool)
+openRows limit far l packet lent =
+    frontRows limit l packet ++ headerRows far l (headerIn packet) ++ dataRows l (headerIn packet) (dataIn packet) lent
 
-unfoldable pub openCode : ℕ → Link → List ℕ → ℕ → ℕ
-openCode limit l packet lent = firstOf (openRows limit l packet lent)
+unfoldable pub openCode : (limit far : ℕ) → Link → List ℕ → ℕ → ℕ
+openCode limit far l packet lent = firstOf (openRows limit far l packet lent)
 
 -- what open gives for data behind a header, by its number
 abbrev pub openedBy : (code : ℕ) (l : Link) (h : ℕ) (text out : List ℕ) → Result
@@ -197,5 +198,5 @@ openedBy code l h text out =
     onDone code (finished (changesFor l h) (linkAfter l h) (written (plainFor l h text) out)) (refusal code l out)
 
 -- what open gives
-unfoldable pub openResult : (limit : ℕ) (l : Link) (packet out : List ℕ) → Result
-openResult limit l packet out = openedBy (openCode limit l packet (length out)) l (headerIn packet) (dataIn packet) out
+unfoldable pub openResult : (limit far : ℕ) (l : Link) (packet out : List ℕ) → Result
+openResult limit far l packet out = openedBy (openCode limit far l packet (length out)) l (headerIn packet) (dataIn packet) out

@@ -9,11 +9,12 @@ use Rattle.octets.specs.Octets.{written}
 use Rattle.mppe_keys.specs.declared.Strength.{Strength}
 use Rattle.mppe_keys.specs.Keys.{initialKey, keyChange}
 use Rattle.mppe.specs.declared.Link.{Link}
-use Rattle.mppe.specs.Link.{counts, renewed, newLink, sealedPacket, Result, finished, refusal, plainRows, sealResult, openCode, openResult}
+use Rattle.mppe.specs.Link.{counts, farthest, renewed, newLink, sealedPacket, Result, finished, refusal, plainRows, sealResult, openCode, openResult}
 
--- "Whichever sealed packets the line loses, at most 4,094 in a row, counted from the start too" (demand 3)
+-- "Whichever sealed packets the line loses, .. counted from the start too" (demand 3), "at most 2,047 lost in a row" (02, M-101): one
+-- fewer than the farthest distance
 abbrev pub mostLost : ℕ
-mostLost = 4094
+mostLost = farthest - 1
 
 -- a seal call: the plain packet, and the lent buffer
 pub record SealCall : Type 0 where
@@ -78,10 +79,6 @@ module _ (limit : ℕ) where
   sealRun l [] = []
   sealRun l (c ∷ cs) = let r : Result = sealResult limit l (c .plain) (c .room) in r ∷ sealRun (r .outcome .link) cs
 
-  unfoldable pub openRun : Link → List OpenCall → List Result
-  openRun l [] = []
-  openRun l (c ∷ cs) = let r : Result = openResult limit l (octetsLent c) (roomLent c) in r ∷ openRun (r .outcome .link) cs
-
   -- ".. and, for each seal call, the plain packet and the length of the lent buffer": which of 3, 4 and 2 applies
   unfoldable pub saidCode : SealCall → ℕ
   saidCode c = firstOf (plainRows limit (c .plain) (length (c .room)))
@@ -106,35 +103,42 @@ module _ (limit : ℕ) where
         onDone (saidCode c) (finished 1 (p .link) (written (p .octets) (c .room))) (refusal (saidCode c) held (c .room))
         ∷ said (onward h c) (onDone (saidCode c) (p .link) held) cs
 
-    module _ (sealed : List Packet) where
-      -- What is asked of the line. `most` is the largest number of packets lost in a row. `next` is one more than the number of the last
-      -- arrival, at first 0, so q - next packets are lost before packet q. `held` is the record of the last arrival, or the new link.
-      -- "An arrival is lent that packet's octets and nothing more, and room for its plain packet; the numbers rise from each arrival to
-      -- the next. Packets with numbers between two neighbouring arrivals, or below the first one's, are lost before the later one ..;
-      -- these stay within demand 3's limit. Every other call in the list is one that the table refuses with the record of the last
-      -- arrival, or with the new link."
-      unfoldable pub Meets : ℕ → ℕ → Link → List OpenCall → Type 0
-      Meets most next held [] = Unit {0}
-      Meets most next held (arrival q octets room ∷ cs) =
-          let p : Packet = numbered s start sealed q in
-          (q < length sealed) × (next ≤ q) × (q - next ≤ most) × (octets ≡ p .octets) × (length (p .plain) ≤ length room)
-          × Meets most (suc q) (p .link) cs
-      Meets most next held (other octets room ∷ cs) = (openCode limit held octets (length room) ≢ done) × Meets most next held cs
+-- `far` is the farthest distance that is opened
+module _ (limit far : ℕ) where
+  -- "Each call gets the record that the last call at its end handed back", at the receiver's end
+  unfoldable pub openRun : Link → List OpenCall → List Result
+  openRun l [] = []
+  openRun l (c ∷ cs) = let r : Result = openResult limit far l (octetsLent c) (roomLent c) in r ∷ openRun (r .outcome .link) cs
 
-      -- "Then each arrival answers 0, writes exactly its plain packet, reports one key change more than packets were lost before it, and
-      -- hands back the history's record for it. Each refused call answers the first number that applies, reports 0, writes nothing and
-      -- hands back that same record."
-      unfoldable pub due : ℕ → Link → List OpenCall → List Result
-      due next held [] = []
-      due next held (arrival q octets room ∷ cs) =
-          let p : Packet = numbered s start sealed q in
-          finished (suc (q - next)) (p .link) (written (p .plain) room) ∷ due (suc q) (p .link) cs
-      due next held (other octets room ∷ cs) = refusal (openCode limit held octets (length room)) held room ∷ due next held cs
+  module _ (s : Strength) (start : List ℕ) (sealed : List Packet) where
+    -- What is asked of the line. `most` is the largest number of packets lost in a row. `next` is one more than the number of the last
+    -- arrival, at first 0, so q - next packets are lost before packet q. `held` is the record of the last arrival, or the new link.
+    -- "An arrival is lent that packet's octets and nothing more, and room for its plain packet; the numbers rise from each arrival to
+    -- the next. Packets with numbers between two neighbouring arrivals, or below the first one's, are lost before the later one ..;
+    -- these stay within demand 3's limit. Every other call in the list is one that the table refuses with the record of the last
+    -- arrival, or with the new link."
+    unfoldable pub Meets : ℕ → ℕ → Link → List OpenCall → Type 0
+    Meets most next held [] = Unit {0}
+    Meets most next held (arrival q octets room ∷ cs) =
+        let p : Packet = numbered s start sealed q in
+        (q < length sealed) × (next ≤ q) × (q - next ≤ most) × (octets ≡ p .octets) × (length (p .plain) ≤ length room)
+        × Meets most (suc q) (p .link) cs
+    Meets most next held (other octets room ∷ cs) = (openCode limit far held octets (length room) ≢ done) × Meets most next held cs
+
+    -- "Then each arrival answers 0, writes exactly its plain packet, reports one key change more than packets were lost before it, and
+    -- hands back the history's record for it. Each refused call answers the first number that applies, reports 0, writes nothing and
+    -- hands back that same record."
+    unfoldable pub due : ℕ → Link → List OpenCall → List Result
+    due next held [] = []
+    due next held (arrival q octets room ∷ cs) =
+        let p : Packet = numbered s start sealed q in
+        finished (suc (q - next)) (p .link) (written (p .plain) room) ∷ due (suc q) (p .link) cs
+    due next held (other octets room ∷ cs) = refusal (openCode limit far held octets (length room)) held room ∷ due next held cs
 
   -- "This is a single claim about the two lists, and not one for each call."
   unfoldable pub Demand3 : ℕ → Type 0
   Demand3 most =
       (s : Strength) (start : List ℕ) → newLink s start .answer ≡ done → (seals : List SealCall) (opens : List OpenCall)
-      → Meets s start (packets s start (beginning s start) seals) most 0 (first s start) opens
-      → (sealRun (first s start) seals ≡ said s start (beginning s start) (first s start) seals)
-      × (openRun (first s start) opens ≡ due s start (packets s start (beginning s start) seals) 0 (first s start) opens)
+      → Meets s start (packets limit s start (beginning s start) seals) most 0 (first s start) opens
+      → (sealRun limit (first s start) seals ≡ said limit s start (beginning s start) (first s start) seals)
+      × (openRun (first s start) opens ≡ due s start (packets limit s start (beginning s start) seals) 0 (first s start) opens)

@@ -8,7 +8,7 @@ ghost use Rattle.answer.specs.Answer.{outside};
 ghost use Rattle.octets.specs.Octets.{written};
 ghost use Rattle.rc4.specs.Cipher.{keySchedule, run};
 ghost use Rattle.mppe_keys.specs.Keys.{changes as changesOf};
-ghost use Rattle.mppe.specs.Link.{shortestPlain, longestPlain, front, counts, zeros, wellFormed, newLink, startKeyIn, sessionKeyIn, renewed, offProtocol, header, distance as distanceOf, refusal, sealCode, sealResult, openResult};
+ghost use Rattle.mppe.specs.Link.{shortestPlain, longestPlain, front, counts, zeros, wellFormed, newLink, startKeyIn, sessionKeyIn, renewed, offProtocol, header, distance as distanceOf, farthest, refusal, sealCode, sealResult, openResult};
 ghost use Rattle.mppe.specs.Inner.{frontCode, headerCode, dataResult};
 use mppe_keys::Strength;
 use mppe_keys::key_length;
@@ -33,6 +33,8 @@ const BIT_A: u16 = 0x8000;
 const BIT_D: u16 = 0x1000;
 // How many counts there are.
 const COUNTS: u16 = 4096;
+// The farthest that a packet's count may be ahead of the last one.
+pub const FARTHEST: u16 = 2048;
 // The count of a new link, so that the first packet carries 0.
 const LAST_COUNT: u16 = 4095;
 
@@ -111,8 +113,8 @@ impl Link {
 
     // Opens a sealed packet into the front of a lent buffer.
     pub fn open(self, packet: &[u8], out: &mut [u8]) -> Outcome
-        ensures { λ r. ⌜ (r ≡ openResult longestPlain self (now (packet .entry)) (now (out .entry)) .outcome)
-            × (now (out .exit) ≡ openResult longestPlain self (now (packet .entry)) (now (out .entry)) .buffer) ⌝ }
+        ensures { λ r. ⌜ (r ≡ openResult longestPlain farthest self (now (packet .entry)) (now (out .entry)) .outcome)
+            × (now (out .exit) ≡ openResult longestPlain farthest self (now (packet .entry)) (now (out .entry)) .buffer) ⌝ }
     {
         let code = front_code(self, packet);
         if code != answer::DONE {
@@ -125,8 +127,8 @@ impl Link {
     // Opens the data behind a header, once their protocol number is found to be one that is carried.
     fn open_data(self, header: u16, text: &[u8], out: &mut [u8]) -> Outcome
         requires { ⌜ (wellFormed self ≡ true) × (shortestPlain ≤ length (now text)) × (length (now text) ≤ longestPlain) ⌝ }
-        ensures { λ r. ⌜ (r ≡ dataResult self header (now (text .entry)) (now (out .entry)) .outcome)
-            × (now (out .exit) ≡ dataResult self header (now (text .entry)) (now (out .entry)) .buffer) ⌝ }
+        ensures { λ r. ⌜ (r ≡ dataResult farthest self header (now (text .entry)) (now (out .entry)) .outcome)
+            × (now (out .exit) ≡ dataResult farthest self header (now (text .entry)) (now (out .entry)) .buffer) ⌝ }
     {
         let count = header % COUNTS;
         let changes = distance(self.count, count);
@@ -202,7 +204,7 @@ fn front_code(link: Link, packet: &[u8]) -> u8
 
 // The number by the rows that the header, its distance and two lengths decide.
 fn header_code(header: u16, distance: u16, length: usize, room: usize) -> u8
-    ensures { λ r. ⌜ r ≡ headerCode header distance length room ⌝ }
+    ensures { λ r. ⌜ r ≡ headerCode farthest header distance length room ⌝ }
 {
     if header / BIT_A % 2 == 0 {
         return answer::FLAGS;
@@ -212,6 +214,9 @@ fn header_code(header: u16, distance: u16, length: usize, room: usize) -> u8
     }
     if distance == 0 {
         return answer::REPEAT;
+    }
+    if FARTHEST < distance {
+        return answer::LATE;
     }
     if room < length {
         return answer::ROOM;

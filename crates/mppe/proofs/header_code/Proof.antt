@@ -1,13 +1,14 @@
 use mathlib.Core.Path.{refl}
 use borrow.Author.Tests.{eq-eqb, ne-eqb, lt-ltb, le-ltb}
 use Rattle.answer.specs.Laws.{Passed, table, pass, stop}
+use Rattle.mppe.specs.Link.{farthest}
 use Rattle.mppe.specs.Inner.{roomRows, headerCode}
 use Rattle.mppe.proofs.header_code.Statement.{statement}
 use Rattle.mppe.proofs.header_code.Tie as tie
 
 -- the table behind each row that is passed
 abbrev whole : tie.Start → Passed
-whole s = let a = s .args in table (headerCode (a .header) (a .distance) (a .length) (a .room)) (roomRows (a .header) (a .distance) (a .length) (a .room)) (unfold headerCode in refl)
+whole s = let a = s .args in table (headerCode farthest (a .header) (a .distance) (a .length) (a .room)) (roomRows farthest (a .header) (a .distance) (a .length) (a .room)) (unfold headerCode in refl)
 
 abbrev has-A : tie.Else1 → Passed
 has-A c = pass (whole (c .before)) (ne-eqb _ _ (c .if1 .left))
@@ -17,6 +18,9 @@ has-D c = pass (has-A (c .before)) (ne-eqb _ _ (c .if2 .left))
 
 abbrev new : tie.Else3 → Passed
 new c = pass (has-D (c .before)) (ne-eqb _ _ (c .if3 .left))
+
+abbrev near : tie.Else4 → Passed
+near c = pass (new (c .before)) (le-ltb _ _ (c .if4 .left))
 
 returns : tie.Need-returns
 returns c = stop (whole (c .before)) (eq-eqb _ _ (c .if1 .taken))
@@ -31,7 +35,10 @@ returns-4 : tie.Need-returns-4
 returns-4 c = stop (new (c .before)) (lt-ltb _ _ (c .if4 .taken))
 
 returns-5 : tie.Need-returns-5
-returns-5 c = pass (new (c .before)) (le-ltb _ _ (c .if4 .left)) .same
+returns-5 c = stop (near (c .before)) (lt-ltb _ _ (c .if5 .taken))
+
+returns-6 : tie.Need-returns-6
+returns-6 c = pass (near (c .before)) (le-ltb _ _ (c .if5 .left)) .same
 
 pub header-code-spec : {M : Type 1} → statement M
-header-code-spec = tie.close (tie.spec returns returns-2 returns-3 returns-4 returns-5)
+header-code-spec = tie.close (tie.spec returns returns-2 returns-3 returns-4 returns-5 returns-6)

@@ -1,5 +1,5 @@
 use native.Mathlib.Omega.{arith}
-use Rattle.mppe.specs.Link.{longestPlain}
+use Rattle.mppe.specs.Link.{longestPlain, farthest}
 use Rattle.mppe.proofs.Laws.{open-refused, front-passed, data-bounds, open-passed}
 use borrow.Author.Needs.{needs}
 use Rattle.mppe.proofs.Link.open.Statement.{statement}
@@ -20,7 +20,7 @@ refused-requires c κs = search needs
 returns : tie.Need-returns
 returns c = let judged = c .before .before in
     let s = judged .before .before .before in
-    open-refused _ (s .args .self) (s .args .packet .now) (s .args .out .now) (judged .front-code .ensures) (c .before .if1 .taken) (c .refused .ensures)
+    open-refused longestPlain farthest (s .args .self) (s .args .packet .now) (s .args .out .now) (judged .front-code .ensures) (c .before .if1 .taken) (c .refused .ensures)
 
 shared-slice-read-pair : tie.Need-shared-slice-read-pair
 shared-slice-read-pair c = let passed = c .before in
@@ -74,7 +74,7 @@ returns-2 c = let opened = c .before .before in
     let passed = read .before .before .before in
     let judged = passed .before in
     let s = judged .before .before .before in
-    open-passed longestPlain (s .args .self) (s .args .packet .now) (s .args .out .now) (judged .front-code .ensures) (passed .if1 .left)
+    open-passed longestPlain farthest (s .args .self) (s .args .packet .now) (s .args .out .now) (judged .front-code .ensures) (passed .if1 .left)
     (read .pair .ensures) (opened .open-data .ensures)
 
 pub open-spec : {M : Type 1} → statement M

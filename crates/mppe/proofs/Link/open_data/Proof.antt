@@ -1,4 +1,5 @@
 use native.Mathlib.Omega.{arith}
+use Rattle.mppe.specs.Link.{farthest}
 use Rattle.mppe.proofs.Laws.{count-bound, data-refused, data-off, data-opened}
 use borrow.Author.Needs.{needs}
 use Rattle.mppe.proofs.Link.open_data.Statement.{statement}
@@ -24,9 +25,9 @@ refused-requires c κs = search needs
 
 returns : tie.Need-returns
 returns c = let judged = c .before .before in
-    let far = judged .before in
-    let s = far .before .before .before in
-    data-refused (s .args .self) (s .args .header) (s .args .text .now) (s .args .out .now) (far .distance .ensures) (judged .header-code .ensures)
+    let away = judged .before in
+    let s = away .before .before .before in
+    data-refused farthest (s .args .self) (s .args .header) (s .args .text .now) (s .args .out .now) (away .distance .ensures) (judged .header-code .ensures)
     (c .before .if1 .taken) (c .refused .ensures)
 
 moved-requires : tie.Need-moved-requires
@@ -37,8 +38,8 @@ cipher-of-requires c κs = search needs
 
 runs-off-protocol-requires : tie.Need-runs-off-protocol-requires
 runs-off-protocol-requires c κs = let judged = c .before .before .before in
-    let far = judged .before in
-    far .before .before .before .pre .1
+    let away = judged .before in
+    away .before .before .before .pre .1
 
 refused-requires-2 : tie.Need-refused-requires-2
 refused-requires-2 c κs = search needs
@@ -49,10 +50,10 @@ returns-2 c = let off = c .before .before in
     let moved = keyed .before in
     let passed = moved .before in
     let judged = passed .before in
-    let far = judged .before in
-    let s = far .before .before .before in
-    data-off (s .args .self) (s .args .header) (s .args .text .now) (s .args .out .now) (judged .header-code .ensures) (passed .if1 .left)
-    (far .distance .ensures, moved .moved .ensures, keyed .cipher-of .ensures) (off .runs-off-protocol .ensures) (c .before .if2 .taken)
+    let away = judged .before in
+    let s = away .before .before .before in
+    data-off farthest (s .args .self) (s .args .header) (s .args .text .now) (s .args .out .now) (judged .header-code .ensures) (passed .if1 .left)
+    (away .distance .ensures, moved .moved .ensures, keyed .cipher-of .ensures) (off .runs-off-protocol .ensures) (c .before .if2 .taken)
     (c .refused2 .ensures)
 
 run-requires : tie.Need-run-requires
@@ -69,10 +70,10 @@ returns-3 c = let ran = c .before .before in
     let moved = keyed .before in
     let passed = moved .before in
     let judged = passed .before in
-    let far = judged .before in
-    let s = far .before .before .before in
-    data-opened (s .args .self) (s .args .header) (s .args .text .now) (s .args .out .now) (judged .header-code .ensures) (passed .if1 .left)
-    (far .distance .ensures, moved .moved .ensures, keyed .cipher-of .ensures) (off .runs-off-protocol .ensures) (carried .if2 .left)
+    let away = judged .before in
+    let s = away .before .before .before in
+    data-opened farthest (s .args .self) (s .args .header) (s .args .text .now) (s .args .out .now) (judged .header-code .ensures) (passed .if1 .left)
+    (away .distance .ensures, moved .moved .ensures, keyed .cipher-of .ensures) (off .runs-off-protocol .ensures) (carried .if2 .left)
     (ran .run .ensures .1) (s .pre .2)
 
 pub open-data-spec : {M : Type 1} → statement M
