@@ -8,7 +8,7 @@ ghost use Rattle.des.specs.Des.{encryptAnswer};
 ghost use Rattle.rc4.specs.Answers.{applyCode, applyOut};
 ghost use Rattle.mppe_keys.specs.Answers.{keyChangesAnswer};
 ghost use Rattle.mppe_keys.specs.declared.Strength.the-variants.{Bits128};
-ghost use Rattle.mppe.specs.Link.{longestPlain, sealResult, openResult};
+ghost use Rattle.mppe.specs.Link.{longestPlain, farthest, sealResult, openResult};
 ghost use Rattle.bench.specs.Copied.{copied, strengthOf, linkAt};
 use mppe::Link;
 use mppe_keys::Strength;
@@ -124,9 +124,9 @@ pub extern "C" fn bench_open(
     packet: &[u8],
     out: &mut [u8],
 ) -> u8
-    ensures { λ r. ⌜ (r ≡ openResult longestPlain (linkAt bits40 (now (start .entry)) (now (session .entry)) count)
+    ensures { λ r. ⌜ (r ≡ openResult longestPlain farthest (linkAt bits40 (now (start .entry)) (now (session .entry)) count)
         (now (packet .entry)) (now (out .entry)) .outcome .answer)
-        × (now (out .exit) ≡ openResult longestPlain (linkAt bits40 (now (start .entry)) (now (session .entry)) count)
+        × (now (out .exit) ≡ openResult longestPlain farthest (linkAt bits40 (now (start .entry)) (now (session .entry)) count)
         (now (packet .entry)) (now (out .entry)) .buffer) ⌝ }
 {
     let link = link_at(bits40, start, session, count);

@@ -7,7 +7,7 @@ use Rattle.answer.specs.Answer.{done}
 use Rattle.mppe_keys.specs.declared.Strength.{Strength}
 use Rattle.mppe_keys.specs.Keys.{bitsOf}
 use Rattle.mppe.specs.declared.Link.{Link}
-use Rattle.mppe.specs.Link.{Result, longestPlain, newLink, newLinkCode, sealResult, openResult}
+use Rattle.mppe.specs.Link.{Result, longestPlain, farthest, newLink, newLinkCode, sealResult, openResult}
 use Rattle.mppe.specs.Run.{SealCall, OpenCall, octetsLent, roomLent, first, sealRun, openRun, Demand3}
 use Rattle.mppe.specs.Demand3.{demand-3-base}
 use Rattle.mppe_record.specs.Record.{strengthOf, recordLength, recordOctets}
@@ -32,12 +32,12 @@ seals-linked (c ∷ cs) l h =
     one-more (λ l. sealResult longestPlain l (c .plain) (c .room)) (λ o. sealsLinked o cs) (λ l. sealRun longestPlain l cs) l (c .room) h
     (seal-sized longestPlain l (c .plain) (c .room) h) (seals-linked cs)
 
-pub opens-linked : (cs : List OpenCall) (l : Link) → Sized l → opensLinked (recordOctets l) cs ≡ map linkedBy (openRun longestPlain l cs)
+pub opens-linked : (cs : List OpenCall) (l : Link) → Sized l → opensLinked (recordOctets l) cs ≡ map linkedBy (openRun longestPlain farthest l cs)
 unfolding opensLinked openRun openLinked
 opens-linked [] l h = refl
 opens-linked (c ∷ cs) l h =
-    one-more (λ l. openResult longestPlain l (octetsLent c) (roomLent c)) (λ o. opensLinked o cs) (λ l. openRun longestPlain l cs) l (roomLent c) h
-    (open-sized longestPlain l (octetsLent c) (roomLent c) h) (opens-linked cs)
+    one-more (λ l. openResult longestPlain farthest l (octetsLent c) (roomLent c)) (λ o. opensLinked o cs) (λ l. openRun longestPlain farthest l cs) l (roomLent c) h
+    (open-sized longestPlain farthest l (octetsLent c) (roomLent c) h) (opens-linked cs)
 
 -- a new link's number
 new-code : (s : Strength) (start : List ℕ) → newLink s start .answer ≡ done → newLinkCode s start ≡ done

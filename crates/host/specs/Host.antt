@@ -25,7 +25,7 @@ use Rattle.ccp.specs.declared.Reply.the-variants.{Accept, CounterOffer, Refused
 use Rattle.ccp.specs.Option.{optionOctets, only}
 use Rattle.ccp.specs.Answers.{replyAnswer, replyCodeOf}
 use Rattle.mppe.specs.declared.Link.{Link}
-use Rattle.mppe.specs.Link.{Result, longestPlain, newLink, sealResult, openResult}
+use Rattle.mppe.specs.Link.{Result, longestPlain, farthest, newLink, sealResult, openResult}
 use Rattle.mppe_record.specs.declared.RecordRead.{RecordRead}
 use Rattle.mppe_record.specs.Record.{strengthOf, noStrength, recordOctets, recordRead}
 use Rattle.sstp.specs.declared.Key.{Key}
@@ -149,7 +149,7 @@ linkedBy r =
       buffer = r .buffer;
     }
 
--- "Refusals 1 to 9 hand back the record given and change no lent octet"
+-- "Refusals 1 to 9 hand back the record given and change no lent octet", and so does 10
 abbrev pub unchanged : (code : ℕ) (octets out : List ℕ) → Linked
 unchanged code octets out = record { code = code; changed = 0; octets = octets; buffer = out }
 
@@ -163,7 +163,7 @@ unfoldable pub sealLinked : (octets plain out : List ℕ) → Linked
 sealLinked octets plain out = linked (λ l. sealResult longestPlain l plain out) octets out
 
 unfoldable pub openLinked : (octets packet out : List ℕ) → Linked
-openLinked octets packet out = linked (λ l. openResult longestPlain l packet out) octets out
+openLinked octets packet out = linked (λ l. openResult longestPlain farthest l packet out) octets out
 
 unfoldable pub openedBy : Linked → Opened
 openedBy l = record { answer = l .code; changes = l .changed }

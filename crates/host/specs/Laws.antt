@@ -3,14 +3,15 @@ use mathlib.Core.Path.{_≡_, refl, sym, ap, _∙_}
 use mathlib.Core.Bool.{Bool, true, false}
 use mathlib.Core.Logic.{_≢_}
 use mathlib.Core.List.{List, append-nil}
-use Prim.Native.Nat.{ℕ, zero, suc}
+use Prim.Native.Nat.{ℕ, zero, suc, _≤_}
 use native.Mathlib.Omega.{arith}
 use lib.ListN.{length, drop-of-length-le}
 use borrow.Author.Tests.{le-ltb}
 use Rattle.answer.specs.Answer.{done, strength, pick, onDone}
 use Rattle.mppe_keys.specs.declared.Strength.{Strength}
 use Rattle.mppe.specs.declared.Link.{Link}
-use Rattle.mppe.specs.Link.{Result, longestPlain, newLink, newLinkCode, refusal, sealCode, sealResult, openCode, openResult}
+use Rattle.mppe.specs.Link.{Result, longestPlain, farthest, newLink, newLinkCode, refusal, sealCode, sealResult, openCode, openResult}
+use Rattle.mppe.specs.Laws.{reported}
 use Rattle.mppe_record.specs.Record.{strengthOf, noStrength, recordLength, recordOctets, recordRead}
 use Rattle.mppe_record.specs.Laws.{Sized, Octets, recordOctets-length, reads-back, writes-back, new-sized}
 use Rattle.host.specs.Host.{Given, Linked, given, newLinkGiven, linkedBy, unchanged, linked, sealLinked, openLinked}
@@ -31,7 +32,7 @@ linked-kept call octets out all same = go (recordRead octets .answer) refl
     go zero ok = ap recordOctets same ∙ writes-back octets all ok
     go (suc n) ok = refl
 
--- "Refusals 1 to 9 hand back the record given and change no lent octet": of a call on records ..
+-- "Refusals 1 to 9 hand back the record given and change no lent octet", and so does 10: of a call on records ..
 abbrev pub Refuses : (Link → Result) → List ℕ → Type 0
 Refuses call out = (l : Link) → call l .outcome .answer ≢ done → call l ≡ refusal (call l .outcome .answer) l out
 
@@ -69,10 +70,22 @@ seal-refused octets plain out = linked-refused (λ l. sealResult longestPlain l 
 pub open-refused : (octets packet out : List ℕ) → Octets octets → openLinked octets packet out .code ≢ done
     → openLinked octets packet out ≡ unchanged (openLinked octets packet out .code) octets out
 unfolding openLinked
-open-refused octets packet out = linked-refused (λ l. openResult longestPlain l packet out) octets out each
+open-refused octets packet out = linked-refused (λ l. openResult longestPlain farthest l packet out) octets out each
   where
-    each : Refuses (λ l. openResult longestPlain l packet out) out
-    each l = unfold openResult in refuses (openCode longestPlain l packet (length out)) _ l out refl
+    each : Refuses (λ l. openResult longestPlain farthest l packet out) out
+    each l = unfold openResult in refuses (openCode longestPlain farthest l packet (length out)) _ l out refl
+
+-- no report is above the farthest distance, whatever the record's octets and the packet are
+pub open-reported : (octets packet out : List ℕ) → openLinked octets packet out .changed ≤ farthest
+unfolding openLinked linked
+open-reported octets packet out = go (recordRead octets .answer)
+  where
+    held : Link
+    held = recordRead octets .link
+
+    go : (code : ℕ) → onDone code (linkedBy (openResult longestPlain farthest held packet out)) (unchanged code octets out) .changed ≤ farthest
+    go zero = reported longestPlain farthest held packet out
+    go (suc n) = omega arith
 
 -- a result that fills the lent buffer
 pub given-fits : (result out : List ℕ) → length result ≡ length out → given done result out ≡ record { code = done; buffer = result }

@@ -7,7 +7,7 @@ use Prim.Native.Nat.{ℕ}
 use lib.ListN.{length}
 use Rattle.answer.specs.Answer.{done}
 use Rattle.mppe_keys.specs.declared.Strength.{Strength}
-use Rattle.mppe.specs.Link.{longestPlain}
+use Rattle.mppe.specs.Link.{longestPlain, farthest}
 use Rattle.mppe.specs.Run.{mostLost, SealCall, OpenCall, octetsLent, roomLent, Packet, first, beginning, packets, said, Meets, due}
 use Rattle.mppe_record.specs.Record.{strengthOf, recordLength}
 use Rattle.host.specs.Host.{Linked, newLinkGiven, linkedBy, sealLinked, openLinked}
@@ -34,6 +34,6 @@ Demand3InC =
     → (seals : List SealCall) (opens : List OpenCall)
     → let s : Strength = strengthOf bits in
     let sealed : List Packet = packets longestPlain s start (beginning s start) seals in
-    Meets longestPlain s start sealed mostLost 0 (first s start) opens
+    Meets longestPlain farthest s start sealed mostLost 0 (first s start) opens
     → (sealsLinked sender seals ≡ map linkedBy (said longestPlain s start (beginning s start) (first s start) seals))
-    × (opensLinked receiver opens ≡ map linkedBy (due longestPlain s start sealed 0 (first s start) opens))
+    × (opensLinked receiver opens ≡ map linkedBy (due longestPlain farthest s start sealed 0 (first s start) opens))

@@ -1,9 +1,12 @@
 -- The fourteen marked cases of 01, K1 to K14: a list of pairs of what the definitions give and what 01 says, under one claim.
 use mathlib.Core.Path.{_≡_, refl}
-use mathlib.Core.Bool.{true}
-use mathlib.Core.List.{List, [], _∷_}
-use Prim.Native.Nat.{ℕ}
-use Rattle.answer.specs.Answer.{done, strength}
+use mathlib.Core.Bool.{true, false}
+use mathlib.Core.List.{List, [], _∷_, _++_}
+use Prim.Native.Nat.{ℕ, _+_}
+use native.Mathlib.Omega.{arith}
+use lib.ListN.{length}
+use Rattle.answer.specs.Answer.{done, strength, late, outside}
+use Rattle.answer.specs.Laws.{within, outside-none}
 use Rattle.mppe_keys.specs.declared.Strength.the-variants.{Bits40, Bits56, Bits128}
 use Rattle.mppe_keys.specs.Keys.{headOf, reduced}
 use Rattle.ccp.specs.declared.Mode.the-variants.{Stateless}
@@ -12,7 +15,8 @@ use Rattle.ccp.specs.declared.Reply.{Reply}
 use Rattle.ccp.specs.declared.Reply.the-variants.{CounterOffer, Refused}
 use Rattle.ccp.specs.Option.{modeOf, strengthsOf, wordOf, only}
 use Rattle.ccp.specs.Answers.{readCode, supportedBits, readAnswer, replyCode, chosen, replyWith, replyAnswer, replyWord}
-use Rattle.mppe.specs.Link.{distance, header}
+use Rattle.mppe.specs.declared.Link.{Link}
+use Rattle.mppe.specs.Link.{shortestPlain, longestPlain, front, farthest, wellFormed, distance, header, refusal, openCode, openResult}
 use Rattle.sstp.specs.Binding.{lengthOctets}
 
 -- what is given, and what must be
@@ -72,3 +76,14 @@ cases =
 pub marked-cases : AllEqual cases
 unfolding readAnswer readCode supportedBits modeOf strengthsOf replyAnswer replyCode chosen replyWith wordOf reduced headOf
 marked-cases = (refl, (refl, (refl, (refl, (refl, (refl, (refl, (refl, (refl, (refl, (refl, (refl, (refl, (refl, tt))))))))))))))
+
+-- "K4's distance stands, but such a packet is refused" (02, M-101): with 10, whatever its data are and the room lent, with a record whose
+-- last count is 0
+pub k4-late : (l : Link) (text out : List ℕ) → wellFormed l ≡ true → l .count ≡ 0 → outside shortestPlain longestPlain (length text) ≡ false
+    → openResult longestPlain farthest l (0x00 ∷ 0xFD ∷ header 4095 ++ text) out ≡ refusal late l out
+unfolding openResult openCode
+k4-late l text out well last long =
+    let (low, high) = within shortestPlain longestPlain (length text) long in
+    let whole : outside (front + shortestPlain) (front + longestPlain) (front + length text) ≡ false =
+    outside-none (front + shortestPlain) (front + longestPlain) (front + length text) (omega arith) (omega arith) in
+    rw (well, whole, last)

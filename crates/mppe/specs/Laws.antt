@@ -3,11 +3,13 @@ use mathlib.Core.Path.{_≡_, refl, ap}
 use mathlib.Core.Bool.{Bool, true, false, _&&_, false≢true}
 use mathlib.Core.List.{List, [], _∷_, _++_}
 use Prim.Native.Nat.{ℕ, zero, suc, _+_, _-_, _/_, _%_, _<_, _≤_}
+use native.Mathlib.Nat.{suc-ne-zero}
 use native.Mathlib.Omega.{arith}
+use lib.Dec.{eqb, ltb}
 use lib.ListN.{length, take, drop, getD, replicate}
 use lib.Seq.{take-append-seam, drop-append-seam}
-use borrow.Author.Tests.{lt-ltb, eq-eqb, ltb-false}
-use Rattle.answer.specs.Answer.{late, firstOf}
+use borrow.Author.Tests.{lt-ltb, le-ltb, eq-eqb, ne-eqb, ltb-false}
+use Rattle.answer.specs.Answer.{repeat, late, firstOf}
 use Rattle.answer.specs.Laws.{clear}
 use Rattle.rc4.specs.Cipher.{keySchedule}
 use Rattle.rc4.specs.Laws.{run-length}
@@ -81,6 +83,12 @@ distance-is next q low near = omega arith
 -- .. and to that of a packet that the last one opened has overtaken
 pub distance-behind : (next q : ℕ) → suc q < next → next - suc q < counts → distance ((next + newCount) % counts) (q % counts) ≡ counts - (next - suc q)
 distance-behind next q low near = omega arith
+
+-- 6 and 10 never both apply, so no answer shows which of the two is tested first
+pub either-first : (far away : ℕ) (rest : List (ℕ × Bool))
+    → firstOf ((repeat, eqb away 0) ∷ (late, ltb far away) ∷ rest) ≡ firstOf ((late, ltb far away) ∷ (repeat, eqb away 0) ∷ rest)
+either-first far zero rest = rw (le-ltb far 0 (omega arith))
+either-first far (suc n) rest = rw (ne-eqb (suc n) 0 (suc-ne-zero n))
 
 -- no report is above the farthest distance, whatever the record and the packet are
 pub reported : (limit far : ℕ) (l : Link) (packet out : List ℕ) → openResult limit far l packet out .outcome .changes ≤ far

@@ -137,11 +137,11 @@ seal-sized limit l plain out (hs, hk, hc) =
     let places = placed-length (nextKey l) (omega (arith, key-most (l .strength))) in
     kept (sealCode limit l plain (length out)) _ l out (hs, places, omega arith) (hs, hk, hc)
 
-pub open-sized : (limit : ℕ) (l : Link) (packet out : List ℕ) → Sized l → Sized (openResult limit l packet out .outcome .link)
+pub open-sized : (limit far : ℕ) (l : Link) (packet out : List ℕ) → Sized l → Sized (openResult limit far l packet out .outcome .link)
 unfolding openResult keyFor
-open-sized limit l packet out (hs, hk, hc) =
+open-sized limit far l packet out (hs, hk, hc) =
     let session : length (sessionKeyIn l) ≡ keyLength (l .strength) = length-take-le (keyLength (l .strength)) (l .session) (omega (arith, key-most (l .strength))) in
     let h : ℕ = headerIn packet in
     let key : length (keyFor l h) ≡ keyLength (l .strength) = changes-length (l .strength) (startKeyIn l) (changesFor l h) (sessionKeyIn l) session in
     let places = placed-length (keyFor l h) (omega (arith, key-most (l .strength))) in
-    kept (openCode limit l packet (length out)) _ l out (hs, places, omega arith) (hs, hk, hc)
+    kept (openCode limit far l packet (length out)) _ l out (hs, places, omega arith) (hs, hk, hc)
