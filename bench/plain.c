@@ -472,6 +472,8 @@ struct plain_outcome plain_open(struct plain_link link, const octet *packet, siz
     distance = (arrived + 4096 - link.count) % 4096;
     if (distance == 0)
         o.answer = 6;
+    else if (distance > 2048)
+        o.answer = 10;
     else if (room < n - 4)
         o.answer = 2;
     if (o.answer)

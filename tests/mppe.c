@@ -92,17 +92,27 @@ static void reads(octet bits)
     }
 }
 
+/* Opens a packet of the message, and prints what it gave. */
+static struct outcome show_opened(const char *label, size_t number, struct outcome link, part packet, size_t room)
+{
+    octet out[14];
+    struct outcome o;
+
+    memset(out, 0xEE, sizeof out);
+    o = open_packet(link, packet, into(out, room));
+    show(label, number, o, out, sizeof out);
+    return o;
+}
+
 /* The sample's message behind a header, as it is printed: under the initial session key, which no packet has. */
 static void sample(octet bits)
 {
-    octet out[14], packet[16] = {0x00, 0xFD, 0x90, 0x00};
+    octet packet[16] = {0x00, 0xFD, 0x90, 0x00};
     struct outcome o = fresh(bits);
 
     sample_message(bits, o.record + AT_SESSION, packet + FRONT);
     published("Sample Encrypted Message", packet + FRONT, RFC3079[place_of(bits)].message);
-    memset(out, 0xEE, sizeof out);
-    o = open_packet(o, of(packet, sizeof packet), into(out, sizeof out));
-    show("message under the initial session key", 0, o, out, sizeof out);
+    show_opened("message under the initial session key", 0, o, of(packet, sizeof packet), 14);
 }
 
 /* A link with another count. */
@@ -113,27 +123,55 @@ static struct outcome counted(struct outcome o, unsigned count)
     return o;
 }
 
-/* Packets sealed from a count made by hand, and the last of them opened by a link with that count. */
-static void ahead(octet bits, unsigned last, size_t packets)
+/* The last of some packets of the message, sealed one after the other. */
+static void last_packet(struct outcome sender, size_t packets, octet wire[18])
 {
-    octet wire[18], out[14];
-    struct outcome receiver = counted(fresh(bits), last), sender = receiver;
-
-    memset(wire, 0xEE, sizeof wire);
-    memset(out, 0xEE, sizeof out);
+    memset(wire, 0xEE, 18);
     for (size_t k = 0; k < packets; k++)
-        sender = seal(sender, of(message, 14), into(wire, sizeof wire));
-    numbered("last count", last, 0, wire, sizeof wire);
-    show("opened after packets", packets, open_packet(receiver, of(wire, sizeof wire), into(out, sizeof out)), out, sizeof out);
+        sender = seal(sender, of(message, 14), into(wire, 18));
 }
 
-/* Counts about the wrap, the farthest distance, and one round of all counts. */
+/* Packets sealed from a count made by hand, and the last of them opened by a link with that count: as it is and with another protocol
+   number inside, each with room and without. */
+static void ahead(octet bits, unsigned last, size_t packets)
+{
+    octet wire[18];
+    struct outcome link = counted(fresh(bits), last);
+
+    last_packet(link, packets, wire);
+    numbered("last count", last, 0, wire, sizeof wire);
+    show_opened("opened after packets", packets, link, of(wire, sizeof wire), 14);
+    show_opened("without room", packets, link, of(wire, sizeof wire), 13);
+    wire[FRONT] ^= 0xFF;
+    show_opened("with another protocol number", packets, link, of(wire, sizeof wire), 14);
+    show_opened("with neither", packets, link, of(wire, sizeof wire), 13);
+}
+
+/* The distances of K1 to K5, and those at the limits of what is opened, from counts about the wrap. */
 static void distances(octet bits)
 {
-    static const unsigned cases[][2] = {{4095, 1}, {4095, 2}, {255, 1}, {4094, 1}, {2, 3}, {4094, 3}, {0, 4095}, {7, 4096}};
+    static const unsigned marked[][2] = {{4095, 1}, {2, 3}, {4094, 3}, {0, 4095}, {7, 4096}};
+    static const unsigned lasts[] = {0, 255, 2047, 2048, 4094, 4095}, aways[] = {1, 2047, 2048, 2049, 4095};
 
-    for (size_t k = 0; k < sizeof cases / sizeof *cases; k++)
-        ahead(bits, cases[k][0], cases[k][1]);
+    for (size_t k = 0; k < sizeof marked / sizeof *marked; k++)
+        ahead(bits, marked[k][0], marked[k][1]);
+    for (size_t k = 0; k < sizeof lasts / sizeof *lasts; k++)
+        for (size_t j = 0; j < sizeof aways / sizeof *aways; j++)
+            ahead(bits, lasts[k], aways[j]);
+}
+
+/* Packets of a new link, as they arrive on a line that loses 2,047 in a row from the start and again across the wrap, and brings some
+   behind others: the last one opened is then one, two, and 2,047 ahead. */
+static void arrivals(octet bits)
+{
+    static const size_t order[] = {2047, 2049, 2048, 2049, 2047, 4097, 2050, 4096, 4098};
+    struct outcome receiver = fresh(bits);
+    octet wire[18];
+
+    for (size_t k = 0; k < sizeof order / sizeof *order; k++) {
+        last_packet(fresh(bits), order[k] + 1, wire);
+        receiver = show_opened("arrival of packet", order[k], receiver, of(wire, sizeof wire), 14);
+    }
 }
 
 /* Record number v: one place of a key altered, another count, or a refused new link. */
@@ -169,14 +207,14 @@ static void both(size_t number, struct outcome link, size_t given, size_t room, 
     show_digest("open", number, open_packet(link, of(wire, given), into(out, room - FRONT)), out);
 }
 
-/* Every set of rows: 1 record, 2 size and shape, 4 flags, 8 repeat, 16 room, 32 protocol. */
+/* Every set of rows: 1 record, 2 size and shape, 4 flags, 8 room, 16 protocol, and 32 repeat or 64 late, which never apply together. */
 static void rows_of(octet bits)
 {
-    for (size_t set = 0; set < 64; set++) {
-        octet mask[6] = {0, 0, (set & 4 ? 0x90 : 0) ^ (set & 8 ? 0x0F : 0), set & 8 ? 0xFF : 0, set & 32 ? 0xFF : 0, 0};
+    for (size_t set = 0; set < 96; set++) {
+        octet mask[6] = {0, 0, (set & 4 ? 0x90 : 0) ^ (set & 96 ? 0x0F : 0), set & 32 ? 0xFF : 0, set & 16 ? 0xFF : 0, 0};
         size_t given = set & 2 ? 1503 : 18;
 
-        both(set, set & 1 ? counted(fresh(bits), 8191) : fresh(bits), given, set & 16 ? given - 1 : given, mask);
+        both(set, set & 1 ? counted(fresh(bits), 8191) : fresh(bits), given, set & 8 ? given - 1 : given, mask);
     }
 }
 
@@ -227,6 +265,7 @@ static void cases(octet bits)
     reads(bits);
     sample(bits);
     distances(bits);
+    arrivals(bits);
     numbered("cases from", 0, 0, NULL, 0);
     rows_of(bits);
     numbered("cases from", 0, 0, NULL, 0);

@@ -1,5 +1,5 @@
 /* The large comparison of the calls that a C host makes: cases from a seed, answered by the oracle and by the library through
-   include/udukemb.h; then whole runs of a link, with losses, repeats and damage between sender and receiver (demand 3).
+   include/udukemb.h; then whole runs of a link, with losses, repeats, late packets and damage between sender and receiver (demand 3).
    Arguments: the seed, and how many cases for each call. */
 #include "guard.h"
 #include "links.h"
@@ -8,7 +8,7 @@
 #include <stdlib.h>
 #include <string.h>
 
-enum { SHORT_RUN = 50, LONG_RUN = 3 * 4096, PLACED_RUN = 24000, PERIOD = 8000, MOST_LOST = 4094 };
+enum { SHORT_RUN = 50, LONG_RUN = 3 * 4096, PLACED_RUN = 24000, PERIOD = 8000, MOST_LOST = FARTHEST - 1, MOST_BEHIND = COUNTS - FARTHEST - 1 };
 
 /* An input, and a lent buffer, as two arguments. */
 #define IN(k) l->in[k], t->in[k].n
@@ -388,12 +388,12 @@ void give(const test *t, answer *a)
     take_back(t, a);
 }
 
-/* A run of a link: both ends' records, the packet sealed last with its plain packet and the record it leaves, packets lost since the
-   last arrival, and what was compared. */
+/* A run of a link: both ends' records, the packet sealed last with its plain packet, one that the line holds back, packets lost since the
+   last arrival, packets sealed since the one held back, and what was compared. */
 static struct {
-    octets sender, receiver, packet, plain;
-    unsigned lost;
-    unsigned long seed, calls, arrivals;
+    octets sender, receiver, packet, plain, held;
+    unsigned lost, behind;
+    unsigned long seed, calls, arrivals, late;
 } run;
 
 static test t;
@@ -427,16 +427,27 @@ static void seal_next(void)
     } while (given.number != DONE);
     copy(&run.packet, &given.lent[1]);
     run.packet.n = FRONT + run.plain.n;
+    run.behind++;
 }
 
 /* How many key changes a packet asks of a record. */
 static unsigned distance(const octets *record, const octets *packet)
 {
-    return (256u * (packet->at[2] - record->at[AT_COUNT]) + packet->at[3] - record->at[AT_COUNT + 1]) % 4096;
+    return (256u * (packet->at[2] - record->at[AT_COUNT]) + packet->at[3] - record->at[AT_COUNT + 1]) % COUNTS;
 }
 
-/* A call of open that the table refuses: a damaged packet, a repeat, or too little room. It must leave the record as it was. Of those
-   with hundreds of key changes to make only some are tried. */
+/* A call of open that must leave the record as it was. */
+static void refuse(const octets *packet, size_t room)
+{
+    static octets record;
+
+    copy(&record, &run.receiver);
+    step(&open_in_run, &run.receiver, packet, room);
+    demand(memcmp(record.at, run.receiver.at, RECORD_OCTETS) == 0, "a refused call changes the record");
+}
+
+/* A call of open that the table refuses: a damaged packet, a repeat, or too little room. Of those with hundreds of key changes to make
+   only some are tried. */
 static void refused_open(void)
 {
     static octets packet, record, out;
@@ -447,13 +458,11 @@ static void refused_open(void)
     fill(&out, room);
     if (!one_in(4))
         damage_arriving(&run.receiver, &packet);
-    if (distance(&record, &packet) > 100 && !one_in(50))
+    if (distance(&record, &packet) > 100 && distance(&record, &packet) <= FARTHEST && !one_in(50))
         return;
     if (oracle_open(whole(&record), part_of(&packet), whole(&out)).number == DONE)
         return;
-    copy(&record, &run.receiver);
-    step(&open_in_run, &run.receiver, &packet, room);
-    demand(memcmp(record.at, run.receiver.at, RECORD_OCTETS) == 0, "a refused call changes the record");
+    refuse(&packet, room);
 }
 
 /* The packet arrives: it opens to what was sealed, with one key change more than packets were lost, and both records are equal. */
@@ -468,6 +477,23 @@ static void arrive(void)
     run.arrivals++;
 }
 
+/* The line holds the packet sealed last back. */
+static void hold_back(void)
+{
+    copy(&run.held, &run.packet);
+    run.behind = 0;
+}
+
+/* Now and then the packet held back comes behind the arrivals that have overtaken it, always where it is as far behind as may be. */
+static void come_late(void)
+{
+    if (run.held.n == 0 || run.behind > MOST_BEHIND || (run.behind < MOST_BEHIND && one_in(2)))
+        return;
+    refuse(&run.held, one_in(4) ? 0 : LONGEST_PLAIN);
+    demand(given.number == LATE, "a packet that comes late is not refused as late");
+    run.late++;
+}
+
 /* Now and then some calls of open that are refused. */
 static void disturb(void)
 {
@@ -475,17 +501,19 @@ static void disturb(void)
         refused_open();
 }
 
-/* One packet sealed, and lost or opened, with refused calls before it and behind. */
+/* One packet sealed, and lost or opened, with refused calls before it and behind. The first of those lost in a row is held back. */
 static void pass(bool arrives)
 {
     seal_next();
     disturb();
     if (!arrives) {
-        run.lost++;
+        if (run.lost++ == 0)
+            hold_back();
         return;
     }
     arrive();
     disturb();
+    come_late();
 }
 
 /* Both ends of a new link. */
@@ -494,6 +522,7 @@ static void begin(unsigned bits)
     make_begin(&run.sender, bits);
     copy(&run.receiver, &run.sender);
     run.lost = 0;
+    run.held.n = 0;
 }
 
 /* A run: packets sealed, some lost, in a long run once as many in a row as may be. */
@@ -512,7 +541,7 @@ static void run_link(unsigned long packets)
     }
 }
 
-/* Whether packet k of a run with placed losses arrives: none of the first 4,094 of each period, then the next one and the period's last;
+/* Whether packet k of a run with placed losses arrives: none of the first 2,047 of each period, then the next one and the period's last;
    of the others none of a burst of 32 in each 256, and three in four besides. */
 static bool arrives(unsigned long k)
 {
@@ -541,7 +570,7 @@ static unsigned long compare_runs(unsigned long seed, unsigned long packets)
     run_link(LONG_RUN);
     for (unsigned k = 0; k < 3; k++)
         run_placed(strength_bits(k));
-    printf("runs of a link: %lu calls, all equal; %lu arrivals\n", run.calls, run.arrivals);
+    printf("runs of a link: %lu calls, all equal; %lu arrivals, %lu packets that came late\n", run.calls, run.arrivals, run.late);
     return run.calls;
 }
 

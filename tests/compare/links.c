@@ -3,8 +3,6 @@
 
 #include <string.h>
 
-enum { COUNTS = 4096 };
-
 /* A number for a strength in bits, also one that is none. */
 unsigned make_bits(void)
 {
@@ -152,12 +150,20 @@ void damage_arriving(const octets *record, octets *packet)
     }
 }
 
+/* A distance: mostly that of the next packet or of one of the next few; now and then any, or one at the limits of what is opened. */
+static unsigned make_distance(void)
+{
+    static const unsigned limits[] = {FARTHEST - 1, FARTHEST, FARTHEST + 1, COUNTS - 1};
+
+    if (one_in(60))
+        return limits[below(4)];
+    return 1 + (unsigned)(one_in(60) ? below(COUNTS - 1) : one_in(3) ? below(20) : 0);
+}
+
 /* A packet for a record, damaged in none, one or several ways. */
 void make_arriving(const octets *record, octets *packet)
 {
-    unsigned distance = 1 + (unsigned)(one_in(60) ? below(COUNTS - 1) : one_in(3) ? below(20) : 0);
-
-    make_sealed(record, distance, packet);
+    make_sealed(record, make_distance(), packet);
     for (bool more = one_in(2); more && packet->n > FRONT + 2; more = one_in(3))
         damage_arriving(record, packet);
 }

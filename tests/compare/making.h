@@ -6,7 +6,7 @@
 
 #include <stdio.h>
 
-enum { INPUTS = 6, LENT = 2, MOST = 65536, NUMBERS = 10 };
+enum { INPUTS = 6, LENT = 2, MOST = 65536, NUMBERS = LATE + 1 };
 
 /* Octets of any length up to MOST. */
 typedef struct {

@@ -9,7 +9,7 @@
 #include <stdlib.h>
 #include <string.h>
 
-enum { COUNTS = 4096, SHA1_OCTETS = 20, BIT_A = 0x80, BIT_D = 0x10, LOWEST_PROTOCOL = 0x21, HIGHEST_PROTOCOL = 0xFA };
+enum { SHA1_OCTETS = 20, BIT_A = 0x80, BIT_D = 0x10, LOWEST_PROTOCOL = 0x21, HIGHEST_PROTOCOL = 0xFA };
 
 /* The places of a record's fields. */
 enum { AT_START = 1, AT_SESSION = 17, AT_COUNT = 33 };
@@ -697,7 +697,18 @@ int oracle_seal(buffer record, part plain, buffer out)
     return DONE;
 }
 
-/* The number for a packet to be opened, but for its protocol number: "7, 1, 5, 6, 2". */
+/* The count that a packet carries, and how far it is ahead of a record's: "(arrived count - last count) mod 4,096". */
+static unsigned arrived_count(part packet)
+{
+    return 256u * (packet.at[2] % 16) + packet.at[3];
+}
+
+static unsigned distance(const octet *record, part packet)
+{
+    return (arrived_count(packet) + COUNTS - last_count(record)) % COUNTS;
+}
+
+/* The number for a packet to be opened, but for its protocol number: "7, 1, 5, 6, 10, 2". */
 static int open_number(buffer record, part packet, size_t room)
 {
     if (!well_formed(record))
@@ -706,24 +717,25 @@ static int open_number(buffer record, part packet, size_t room)
         return SHAPE;
     if ((packet.at[2] & BIT_A) == 0 || (packet.at[2] & BIT_D) == 0)
         return FLAGS;
-    if (256u * (packet.at[2] % 16) + packet.at[3] == last_count(record.at))
+    if (arrived_count(packet) == last_count(record.at))
         return REPEAT;
+    if (distance(record.at, packet) > FARTHEST)
+        return LATE;
     return room < packet.n - FRONT ? ROOM : DONE;
 }
 
-/* Open: "7, 1, 5, 6, 2, 4"; distance key changes, RC4, last count = arrived. */
+/* Open: "7, 1, 5, 6, 10, 2, 4"; distance key changes, RC4, last count = arrived. */
 opened oracle_open(buffer record, part packet, buffer out)
 {
     opened result = {open_number(record, packet, out.n), 0};
     octet next[RECORD_OCTETS], plain[LONGEST_PLAIN];
-    unsigned count, distance;
+    unsigned changes;
 
     if (result.number != DONE)
         return result;
-    count = 256u * (packet.at[2] % 16) + packet.at[3];
-    distance = (count + COUNTS - last_count(record.at)) % COUNTS;
+    changes = distance(record.at, packet);
     memcpy(next, record.at, RECORD_OCTETS);
-    renew(next, distance, count);
+    renew(next, changes, arrived_count(packet));
     under_session(next, of(packet.at + FRONT, packet.n - FRONT), plain);
     if (off_protocol(plain)) {
         result.number = PROTOCOL;
@@ -731,7 +743,7 @@ opened oracle_open(buffer record, part packet, buffer out)
     }
     memcpy(record.at, next, RECORD_OCTETS);
     memcpy(out.at, plain, packet.n - FRONT);
-    result.changes = distance;
+    result.changes = changes;
     return result;
 }
 

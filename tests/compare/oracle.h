@@ -1,4 +1,4 @@
-/* A second reading of 01 (the users' specification): what every public call must answer, over OpenSSL and plain C. It shares no code
+/* A second reading of 01 (the users' specification) and of 02, as far as its requests have landed: what every public call must answer, over OpenSSL and plain C. It shares no code
    with the library. Each function gives the number of 01's table, and writes its result only where that is 0; a result that is not
    lent is filled with zeros first. */
 #ifndef ORACLE_H
@@ -20,8 +20,11 @@ typedef struct {
     size_t n;
 } buffer;
 
-/* The numbers a call may answer. */
-enum { DONE, SHAPE, ROOM, SIZE, PROTOCOL, FLAGS, REPEAT, RECORD, STRENGTH };
+/* The numbers a call may answer; 9 is no longer given. */
+enum { DONE, SHAPE, ROOM, SIZE, PROTOCOL, FLAGS, REPEAT, RECORD, STRENGTH, LATE = 10 };
+
+/* Counts of packets, and the farthest ahead of the last one that is opened. */
+enum { COUNTS = 4096, FARTHEST = 2048 };
 
 /* Lengths. */
 enum {

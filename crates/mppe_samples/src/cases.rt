@@ -36,7 +36,8 @@ pub fn all(strength: Strength) {
     each(strength, Kind::Bits, 126, 131);
     show_sample(fresh(strength), strength);
     distances(strength);
-    each(strength, Kind::Rows, 0, 64);
+    arrivals(strength);
+    each(strength, Kind::Rows, 0, 96);
     each(strength, Kind::Record, 0, 36);
     each(strength, Kind::Room, 4, 25);
     each(strength, Kind::Length, 4, 13);
@@ -184,11 +185,11 @@ fn lent(given: usize, room: usize) -> Trial {
     }
 }
 
-// A set of rows: 1 record, 2 size and shape, 4 flags, 8 repeat, 16 room, 32 protocol.
+// A set of rows: 1 record, 2 size and shape, 4 flags, 8 room, 16 protocol, and 32 repeat or 64 late, which never apply together.
 fn rows(set: usize) -> Trial {
-    let short = set / 16 % 2;
-    let high = if_in(set / 4, 0x90) ^ if_in(set / 8, 0x0F);
-    let mask = [0, 0, high, if_in(set / 8, 0xFF), if_in(set / 32, 0xFF), 0];
+    let short = set / 8 % 2;
+    let high = if_in(set / 4, 0x90) ^ if_in(set / 32, 0x0F) ^ if_in(set / 64, 0x0F);
+    let mask = [0, 0, high, if_in(set / 32, 0xFF), if_in(set / 16, 0xFF), 0];
     if set / 2 % 2 == 1 {
         return Trial {
             given: 1503,
@@ -302,31 +303,76 @@ fn turned(key: [u8; 16], at: usize) -> [u8; 16]
     out
 }
 
-// Counts about the wrap, the farthest distance, and one round of all counts.
+// The distances of K1 to K5, and those at the limits of what is opened, from counts about the wrap.
 fn distances(strength: Strength) {
     ahead(strength, 4095, 1);
-    ahead(strength, 4095, 2);
-    ahead(strength, 255, 1);
-    ahead(strength, 4094, 1);
     ahead(strength, 2, 3);
     ahead(strength, 4094, 3);
     ahead(strength, 0, 4095);
     ahead(strength, 7, 4096);
+    at_limits(strength, 0);
+    at_limits(strength, 255);
+    at_limits(strength, 2047);
+    at_limits(strength, 2048);
+    at_limits(strength, 4094);
+    at_limits(strength, 4095);
 }
 
-// Packets sealed from a count made by hand, and the last of them opened by a link with that count.
+// The distances at the limits of what is opened.
+fn at_limits(strength: Strength, last: u16) {
+    ahead(strength, last, 1);
+    ahead(strength, last, 2047);
+    ahead(strength, last, 2048);
+    ahead(strength, last, 2049);
+    ahead(strength, last, 4095);
+}
+
+// Packets sealed from a count made by hand, and the last of them opened by a link with that count: as it is and with another protocol
+// number inside, each with room and without.
 fn ahead(strength: Strength, last: u16, packets: usize) {
     let link = counted(fresh(strength), last);
     let wire = last_packet(link, packets);
     report::numbered(b"last count", last as usize, 0, &wire);
-    show_opened(b"opened after packets", packets, link, &wire);
+    show_opened(b"opened after packets", packets, link, &wire, 14);
+    show_opened(b"without room", packets, link, &wire, 13);
+    let mut other = wire;
+    other[4] = other[4] ^ 0xFF;
+    show_opened(b"with another protocol number", packets, link, &other, 14);
+    show_opened(b"with neither", packets, link, &other, 13);
+}
+
+// Packets of a new link, as they arrive on a line that loses 2,047 in a row from the start and again across the wrap, and brings some
+// behind others: the last one opened is then one, two, and 2,047 ahead.
+fn arrivals(strength: Strength) {
+    let first = fresh(strength);
+    let lossy = arrival(first, first, 2047);
+    let ahead = arrival(first, lossy, 2049);
+    let late = arrival(first, ahead, 2048);
+    let again = arrival(first, late, 2049);
+    let later = arrival(first, again, 2047);
+    let wrapped = arrival(first, later, 4097);
+    let latest = arrival(first, wrapped, 2050);
+    let before = arrival(first, latest, 4096);
+    arrival(first, before, 4098);
+}
+
+// A packet of a link opened by a receiver, and the receiver's record behind it.
+fn arrival(first: Link, receiver: Link, number: usize) -> Link {
+    show_opened(
+        b"arrival of packet",
+        number,
+        receiver,
+        &last_packet(first, number + 1),
+        14,
+    )
 }
 
 // Opens a packet of the message, and prints what it gave.
-fn show_opened(label: &[u8], n: usize, link: Link, packet: &[u8]) {
+fn show_opened(label: &[u8], n: usize, link: Link, packet: &[u8], room: usize) -> Link {
     let mut out = [0xEEu8; 14];
-    let made = link.open(packet, &mut out);
+    let made = open_within(link, packet, packet.len(), &mut out, room);
     show(label, n, made, &out);
+    made.link
 }
 
 // The last of some packets sealed one after the other.
@@ -365,5 +411,11 @@ fn show_sample(link: Link, strength: Strength) {
 
 // Opens a packet under the initial session key, which no packet has.
 fn open_sample(link: Link, packet: &[u8]) {
-    show_opened(b"message under the initial session key", 0, link, packet);
+    show_opened(
+        b"message under the initial session key",
+        0,
+        link,
+        packet,
+        14,
+    );
 }
