@@ -1,6 +1,6 @@
 /*
- * A pump station logs in at the control room, both work out the link's keys, and readings go over a line that loses some of
- * them. It shows what a program in C does with the library, what the library does with packets that it must not hand up, and
+ * A pump station logs in at the control room, both work out the link's keys, and readings go over a line that loses one of
+ * them and brings another late. It shows what a program in C does with the library, what the library does with packets that it must not hand up, and
  * what it cannot see. It compiles as C and as C++.
  */
 #include "udukemb.h"
@@ -9,7 +9,7 @@
 #include <stdlib.h>
 #include <string.h>
 
-enum { BITS = 128, READINGS = 6, LOST_FROM = 2, LOST_TO = 3 };
+enum { BITS = 128, READINGS = 6, LOST = 2, HELD_BACK = 3, LONGEST_READING = 64 };
 
 /* The user, password and challenges of RFC 2759, section 9.2, the user with a domain in front. The password is UTF-16, low octet first. */
 static const uint8_t name[] = { 'N', 'O', 'R', 'T', 'H', '\\', 'U', 's', 'e', 'r' };
@@ -33,7 +33,8 @@ static const char *meaning(uint8_t answer)
                                          "it was opened before",
                                          "the link record is damaged",
                                          "no strength is both offered and allowed",
-                                         "a number that is no longer given" };
+                                         "a number that is no longer given",
+                                         "it comes late: one that was sealed after it is opened" };
 
     return answer < sizeof words / sizeof words[0] ? words[answer] : "unknown";
 }
@@ -134,7 +135,7 @@ static void open_packet(uint8_t receiver[UDUKEMB_LINK_RECORD], const char *what,
     struct udukemb_opened opened = udukemb_open(receiver, UDUKEMB_LINK_RECORD, packet, n, plain, sizeof plain);
 
     if (opened.answer == UDUKEMB_DONE)
-        printf("  %s: \"%.*s\" (%u lost before it)\n", what, (int)(n - UDUKEMB_PACKET_FRONT - 2), (const char *)plain + 2,
+        printf("  %s: \"%.*s\" (%u missing before it)\n", what, (int)(n - UDUKEMB_PACKET_FRONT - 2), (const char *)plain + 2,
                opened.changes - 1u);
     else
         printf("  %s: refused with %u, %s\n", what, opened.answer, meaning(opened.answer));
@@ -166,12 +167,15 @@ static void alter_payload(uint8_t receiver[UDUKEMB_LINK_RECORD], uint8_t *packet
            "    an unaltered packet opens to what was sealed. A check inside the payload, or TLS around the link, would tell.\n");
 }
 
-/* Step 3: readings are sealed, some are lost, and the rest are opened; other packets come in between. */
+/* Step 3: readings are sealed, one is lost, one is held back, and the rest are opened; other packets come in between. */
 static void run_line(uint8_t sender[UDUKEMB_LINK_RECORD], uint8_t receiver[UDUKEMB_LINK_RECORD])
 {
-    printf("3. The station sends readings; the line loses numbers %d and %d\n", LOST_FROM, LOST_TO);
+    uint8_t held[LONGEST_READING + UDUKEMB_PACKET_FRONT];
+    size_t held_n = 0;
+
+    printf("3. The station sends readings; the line loses number %d, and holds number %d back\n", LOST, HELD_BACK);
     for (int i = 1; i <= READINGS; i++) {
-        uint8_t plain[64] = { 0x00, 0x21 }, packet[sizeof plain + UDUKEMB_PACKET_FRONT];
+        uint8_t plain[LONGEST_READING] = { 0x00, 0x21 }, packet[sizeof held];
         size_t n = 2 + (size_t)snprintf((char *)plain + 2, sizeof plain - 2, "reading %d, level 3.%02d m", i, 10 + i);
         char label[32];
 
@@ -179,7 +183,9 @@ static void run_line(uint8_t sender[UDUKEMB_LINK_RECORD], uint8_t receiver[UDUKE
         n += UDUKEMB_PACKET_FRONT;
         if (i == 1)
             show("packet 1 on the line", packet, n);
-        if (LOST_FROM <= i && i <= LOST_TO)
+        if (i == HELD_BACK)
+            memcpy(held, packet, held_n = n);
+        if (i == LOST || i == HELD_BACK)
             continue;
         if (i == 4)
             alter_protocol(receiver, packet, n);
@@ -188,6 +194,8 @@ static void run_line(uint8_t sender[UDUKEMB_LINK_RECORD], uint8_t receiver[UDUKE
             alter_payload(receiver, packet, n);
         else
             open_packet(receiver, label, packet, n);
+        if (i == 4)
+            open_packet(receiver, "packet 3, behind packet 4", held, held_n);
         if (i == 5)
             repeat_and_damage(receiver, packet, n);
     }

@@ -16,8 +16,8 @@
  * speaks of such a call. Seal a packet over its own plain packet, and today's archive answers 0 and leaves a packet
  * that opens to other octets, or not at all.
  *
- * Time: `udukemb_open` makes as many key changes as the packet's count is ahead of the last one, 1 to 4,095, before it
- * can see whether the protocol number inside is right. So a packet at the farthest distance costs some milliseconds
+ * Time: `udukemb_open` makes as many key changes as the packet's count is ahead of the last one, 1 to 2,048, before it
+ * can see whether the protocol number inside is right. So a packet at the farthest distance costs a millisecond or two
  * even if it is then refused with 4, and whoever can put octets on the line can make every packet cost that much. How
  * long a call takes is not proved, nor that its time keeps a secret.
  *
@@ -48,7 +48,7 @@
 
 /* The version of this interface: a new major number may break a program, a new minor one adds to it. */
 #define UDUKEMB_VERSION_MAJOR 1
-#define UDUKEMB_VERSION_MINOR 1
+#define UDUKEMB_VERSION_MINOR 2
 
 /* A call whose answer is not looked at is warned of, where the compiler can. */
 #if defined(__GNUC__)
@@ -72,8 +72,12 @@ enum {
     UDUKEMB_REPEAT = 6,   /* the count equals the last one */
     UDUKEMB_RECORD = 7,   /* the octets are no well formed link record */
     UDUKEMB_STRENGTH = 8, /* no strength is both offered and allowed; or the bits are none of 40, 56 and 128 */
-    UDUKEMB_DOMAIN = 9    /* no longer given, and never another refusal's number: a user name held a backslash */
+    UDUKEMB_DOMAIN = 9,   /* no longer given, and never another refusal's number: a user name held a backslash */
+    UDUKEMB_LATE = 10     /* the count is too far ahead of the last one, as that of a packet that comes late is */
 };
+
+/* The farthest that a packet's count may be ahead of the last one, modulo 4,096: the most key changes that an open makes. */
+enum { UDUKEMB_FARTHEST = 2048 };
 
 /* Lengths in octets. */
 enum {
@@ -113,7 +117,7 @@ struct udukemb_reply {
 /* An opened packet's answer. Where it is not 0, `changes` is 0. */
 struct udukemb_opened {
     uint8_t answer;
-    uint16_t changes; /* the key changes made: one more than the packets lost just before this one */
+    uint16_t changes; /* the key changes made, at most 2,048: one more than the packets lost just before this one */
 };
 
 /*
@@ -257,12 +261,15 @@ UDUKEMB_MUST_USE uint8_t udukemb_seal(
 /*
  * Opens a sealed packet into `out`, 4 octets fewer than it has, and writes the next record over `link_record`.
  * MPPE has no check of its own on the octets: a packet that was altered on the line may answer 0 and open to other
- * octets than were sealed. What is promised is that an unaltered packet opens to what was sealed.
+ * octets than were sealed. What is promised is that an unaltered packet opens to what was sealed, if at most 2,047 were
+ * lost just before it.
+ * A packet that comes late, behind one that was sealed after it, is refused and changes nothing: it cannot be opened any
+ * more, and is lost.
  * Lengths: record 35, exactly; packet 6 to 1,502.
  * Answers: 7 record, `link_record` is not 35 octets that hold a well formed record; 1 shape, the packet's length is
  * outside its limits, or it does not begin with 00 FD; 5 flags, bit A or D of its header is 0; 6 repeat, its count is
- * the last one; 2 room, `out` has fewer than packet_len - 4 octets; 4 protocol, the number inside is outside 0x0021 to
- * 0x00FA.
+ * the last one; 10 late, its count is 2,049 to 4,095 ahead of the last one, modulo 4,096; 2 room, `out` has fewer than
+ * packet_len - 4 octets; 4 protocol, the number inside is outside 0x0021 to 0x00FA.
  */
 UDUKEMB_MUST_USE struct udukemb_opened udukemb_open(
     uint8_t *link_record, size_t link_record_len,

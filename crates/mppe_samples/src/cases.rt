@@ -335,10 +335,16 @@ fn ahead(strength: Strength, last: u16, packets: usize) {
     report::numbered(b"last count", last as usize, 0, &wire);
     show_opened(b"opened after packets", packets, link, &wire, 14);
     show_opened(b"without room", packets, link, &wire, 13);
-    let mut other = wire;
-    other[4] = other[4] ^ 0xFF;
+    let other = other_protocol(wire);
     show_opened(b"with another protocol number", packets, link, &other, 14);
     show_opened(b"with neither", packets, link, &other, 13);
+}
+
+// A packet with another protocol number inside.
+fn other_protocol(wire: [u8; 18]) -> [u8; 18] {
+    let mut out = wire;
+    out[4] = out[4] ^ 0xFF;
+    out
 }
 
 // Packets of a new link, as they arrive on a line that loses 2,047 in a row from the start and again across the wrap, and brings some
@@ -357,12 +363,13 @@ fn arrivals(strength: Strength) {
 }
 
 // A packet of a link opened by a receiver, and the receiver's record behind it.
-fn arrival(first: Link, receiver: Link, number: usize) -> Link {
+fn arrival(first: Link, receiver: Link, number: u16) -> Link {
+    let packet = number as usize;
     show_opened(
         b"arrival of packet",
-        number,
+        packet,
         receiver,
-        &last_packet(first, number + 1),
+        &last_packet(first, packet + 1),
         14,
     )
 }
