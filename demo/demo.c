@@ -183,8 +183,10 @@ static void run_line(uint8_t sender[UDUKEMB_LINK_RECORD], uint8_t receiver[UDUKE
         n += UDUKEMB_PACKET_FRONT;
         if (i == 1)
             show("packet 1 on the line", packet, n);
-        if (i == HELD_BACK)
-            memcpy(held, packet, held_n = n);
+        if (i == HELD_BACK) {
+            memcpy(held, packet, n);
+            held_n = n;
+        }
         if (i == LOST || i == HELD_BACK)
             continue;
         if (i == 4)

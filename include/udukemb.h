@@ -263,8 +263,8 @@ UDUKEMB_MUST_USE uint8_t udukemb_seal(
  * MPPE has no check of its own on the octets: a packet that was altered on the line may answer 0 and open to other
  * octets than were sealed. What is promised is that an unaltered packet opens to what was sealed, if at most 2,047 were
  * lost just before it.
- * A packet that comes late, behind one that was sealed after it, is refused and changes nothing: it cannot be opened any
- * more, and is lost.
+ * A packet that comes late, up to 2,047 behind the last one opened, is refused and changes nothing; it is lost. One that
+ * is still farther behind is taken for one that is ahead.
  * Lengths: record 35, exactly; packet 6 to 1,502.
  * Answers: 7 record, `link_record` is not 35 octets that hold a well formed record; 1 shape, the packet's length is
  * outside its limits, or it does not begin with 00 FD; 5 flags, bit A or D of its header is 0; 6 repeat, its count is
