@@ -47,8 +47,8 @@
 #include <stdint.h>
 
 /* The version of this interface: a new major number may break a program, a new minor one adds to it. */
-#define UDUKEMB_VERSION_MAJOR 1
-#define UDUKEMB_VERSION_MINOR 2
+#define UDUKEMB_VERSION_MAJOR 2
+#define UDUKEMB_VERSION_MINOR 0
 
 /* A call whose answer is not looked at is warned of, where the compiler can. */
 #if defined(__GNUC__)

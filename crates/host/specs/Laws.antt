@@ -11,7 +11,7 @@ use Rattle.answer.specs.Answer.{done, strength, pick, onDone}
 use Rattle.mppe_keys.specs.declared.Strength.{Strength}
 use Rattle.mppe.specs.declared.Link.{Link}
 use Rattle.mppe.specs.Link.{Result, longestPlain, farthest, newLink, newLinkCode, refusal, sealCode, sealResult, openCode, openResult}
-use Rattle.mppe.specs.Laws.{reported}
+use Rattle.mppe.specs.Laws.{report-bound}
 use Rattle.mppe_record.specs.Record.{strengthOf, noStrength, recordLength, recordOctets, recordRead}
 use Rattle.mppe_record.specs.Laws.{Sized, Octets, recordOctets-length, reads-back, writes-back, new-sized}
 use Rattle.host.specs.Host.{Given, Linked, given, newLinkGiven, linkedBy, unchanged, linked, sealLinked, openLinked}
@@ -76,15 +76,15 @@ open-refused octets packet out = linked-refused (λ l. openResult longestPlain f
     each l = unfold openResult in refuses (openCode longestPlain farthest l packet (length out)) _ l out refl
 
 -- no report is above the farthest distance, whatever the record's octets and the packet are
-pub open-reported : (octets packet out : List ℕ) → openLinked octets packet out .changed ≤ farthest
+pub open-report-bound : (octets packet out : List ℕ) → openLinked octets packet out .changed ≤ farthest
 unfolding openLinked linked
-open-reported octets packet out = go (recordRead octets .answer)
+open-report-bound octets packet out = go (recordRead octets .answer)
   where
     held : Link
     held = recordRead octets .link
 
     go : (code : ℕ) → onDone code (linkedBy (openResult longestPlain farthest held packet out)) (unchanged code octets out) .changed ≤ farthest
-    go zero = reported longestPlain farthest held packet out
+    go zero = report-bound longestPlain farthest held packet out
     go (suc n) = omega arith
 
 -- a result that fills the lent buffer

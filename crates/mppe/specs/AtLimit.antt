@@ -1,5 +1,6 @@
 -- A run at the limits of demand 3's schedule, for every strength and start key: the most packets that may be lost in a row are lost from
--- the start, and as many again across the wrap of the count. So the limit is no smaller than stated; and what the claim says of this run.
+-- the start, and as many twice more, the last time across the wrap of the count. So the limit is no smaller than stated; and what the
+-- claim says of this run.
 use mathlib.Core.Path.{_≡_, refl, ap}
 use mathlib.Core.List.{List, [], _∷_, map}
 use Prim.Native.Nat.{ℕ, zero, suc, _+_, _<_, _≤_}
@@ -22,8 +23,11 @@ call = record { plain = plain; room = replicate 6 0 }
 abbrev early : ℕ
 early = mostLost
 
-abbrev late : ℕ
-late = suc early + mostLost
+abbrev middle : ℕ
+middle = suc early + mostLost
+
+abbrev wrapped : ℕ
+wrapped = suc middle + mostLost
 
 abbrev calls : ℕ → List SealCall
 calls n = replicate n call
@@ -44,22 +48,32 @@ module _ (s : Strength) (start : List ℕ) where
   sealed n = packets longestPlain s start (beginning s start) (calls n)
 
   abbrev pub opens : List Packet → List OpenCall
-  opens ps = arrival early (numbered s start ps early .octets) (replicate 2 0) ∷ arrival late (numbered s start ps late .octets) (replicate 2 0) ∷ []
+  opens ps = arrives early ∷ arrives middle ∷ arrives wrapped ∷ []
+    where
+      arrives : ℕ → OpenCall
+      arrives q = arrival q (numbered s start ps q .octets) (replicate 2 0)
 
-  pub meets : (n : ℕ) → late < n → Meets longestPlain farthest s start (sealed n) mostLost 0 (first s start) (opens (sealed n))
+  pub meets : (n : ℕ) → wrapped < n → Meets longestPlain farthest s start (sealed n) mostLost 0 (first s start) (opens (sealed n))
   unfolding Meets
   meets n h =
       let long = sealed-length n (beginning s start) in
       let early-fits = sealed-plain n early (beginning s start) (omega arith) in
-      let late-fits = sealed-plain n late (beginning s start) h in
-      (omega (arith, long), lit≤ tt, lit≤ tt, refl, early-fits, (omega (arith, long), lit≤ tt, lit≤ tt, refl, late-fits, tt))
+      let middle-fits = sealed-plain n middle (beginning s start) (omega arith) in
+      let wrapped-fits = sealed-plain n wrapped (beginning s start) h in (
+        omega (arith, long),
+        lit≤ tt,
+        lit≤ tt,
+        refl,
+        early-fits,
+        (omega (arith, long), lit≤ tt, lit≤ tt, refl, middle-fits, (omega (arith, long), lit≤ tt, lit≤ tt, refl, wrapped-fits, tt)),
+      )
 
   -- the key changes that open reports
   abbrev reported : Result → ℕ
   reported r = r .outcome .changes
 
-  -- both arrivals are as far as may be
-  pub run-opens : newLink s start .answer ≡ done → (n : ℕ) → late < n
-      → map reported (openRun longestPlain farthest (first s start) (opens (sealed n))) ≡ farthest ∷ farthest ∷ []
+  -- all arrivals are as far as may be
+  pub run-opens : newLink s start .answer ≡ done → (n : ℕ) → wrapped < n
+      → map reported (openRun longestPlain farthest (first s start) (opens (sealed n))) ≡ farthest ∷ farthest ∷ farthest ∷ []
   unfolding Demand3 due
   run-opens ok n h = ap (map reported) (demand-3-base s start ok (calls n) (opens (sealed n)) (meets n h) .1)

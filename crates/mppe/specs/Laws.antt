@@ -91,9 +91,9 @@ either-first far zero rest = rw (le-ltb far 0 (omega arith))
 either-first far (suc n) rest = rw (ne-eqb (suc n) 0 (suc-ne-zero n))
 
 -- no report is above the farthest distance, whatever the record and the packet are
-pub reported : (limit far : ℕ) (l : Link) (packet out : List ℕ) → openResult limit far l packet out .outcome .changes ≤ far
+pub report-bound : (limit far : ℕ) (l : Link) (packet out : List ℕ) → openResult limit far l packet out .outcome .changes ≤ far
 unfolding openResult openCode
-reported limit far l packet out = go (openCode limit far l packet (length out)) refl
+report-bound limit far l packet out = go (openCode limit far l packet (length out)) refl
   where
     rows : List (ℕ × Bool)
     rows = openRows limit far l packet (length out)
