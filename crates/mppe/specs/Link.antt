@@ -153,7 +153,7 @@ sealResult limit l plain out =
     (finished 1 (renewed l (nextKey l) (nextCount l)) (written (sealedPacket (nextKey l) (nextCount l) plain) out))
     (refusal code l out)
 
--- what a record makes of a header: "that many key changes" as the distance
+-- what a record makes of a header: as many key changes as the distance
 abbrev pub changesFor : Link → ℕ → ℕ
 changesFor l h = distance (l .count) (countOf h)
 
