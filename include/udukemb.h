@@ -76,7 +76,7 @@ enum {
     UDUKEMB_LATE = 10     /* the count is too far ahead of the last one, as that of a packet that comes late is */
 };
 
-/* The farthest that a packet's count may be ahead of the last one, modulo 4,096: the most key changes that an open makes. */
+/* The farthest that a packet's count may be ahead of the last one, modulo 4,096: the most key changes of an open. */
 enum { UDUKEMB_FARTHEST = 2048 };
 
 /* Lengths in octets. */
@@ -263,8 +263,8 @@ UDUKEMB_MUST_USE uint8_t udukemb_seal(
  * MPPE has no check of its own on the octets: a packet that was altered on the line may answer 0 and open to other
  * octets than were sealed. What is promised is that an unaltered packet opens to what was sealed, if at most 2,047 were
  * lost just before it.
- * A packet that comes late, up to 2,047 behind the last one opened, is refused and changes nothing; it is lost. One that
- * is still farther behind is taken for one that is ahead.
+ * A packet that comes late, up to 2,047 behind the last one opened, is refused and changes nothing; it is lost. One
+ * that is still farther behind is taken for one that is ahead.
  * Lengths: record 35, exactly; packet 6 to 1,502.
  * Answers: 7 record, `link_record` is not 35 octets that hold a well formed record; 1 shape, the packet's length is
  * outside its limits, or it does not begin with 00 FD; 5 flags, bit A or D of its header is 0; 6 repeat, its count is

@@ -232,74 +232,78 @@ module _ (s : Strength) (start : List ℕ) where
           let pair : eqb (pairAt 0 packet) 0x00FD ≡ true = unfold packetAt sealedPacket in refl in
           rw (well-at m, whole, pair)
 
-      -- `far` is the farthest distance that is opened
-      line-code : (far m q : ℕ) (plain : List ℕ) (lent : ℕ) → Sealable limit plain
-          → openCode limit far (recordAt m) (packetAt q plain .octets) lent
-          ≡ firstOf ((repeat, eqb (changesFor (recordAt m) (headerAt q)) 0) ∷ (late, ltb far (changesFor (recordAt m) (headerAt q))) ∷ dataRows (recordAt m) (headerAt q) (rc4 (keyAt (suc q)) plain) lent)
-      unfolding openCode
-      line-code far m q plain lent can =
-          let packet : List ℕ = packetAt q plain .octets in
-          let h : ℕ = headerIn packet in
-          rows-pass (frontRows limit (recordAt m) packet) (headerRows far (recordAt m) h ++ dataRows (recordAt m) h (dataIn packet) lent) refl (line-front m q plain can)
-          ∙ rw (line-header q plain, line-data q plain, header-A (q % counts) (omega arith), header-D (q % counts) (omega arith))
+      -- and `far` the farthest distance that is opened
+      module _ (far : ℕ) where
+        line-code : (m q : ℕ) (plain : List ℕ) (lent : ℕ) → Sealable limit plain
+            → openCode limit far (recordAt m) (packetAt q plain .octets) lent
+            ≡ firstOf
+            ((repeat, eqb (changesFor (recordAt m) (headerAt q)) 0)
+            ∷ (late, ltb far (changesFor (recordAt m) (headerAt q)))
+            ∷ dataRows (recordAt m) (headerAt q) (rc4 (keyAt (suc q)) plain) lent)
+        unfolding openCode
+        line-code m q plain lent can =
+            let packet : List ℕ = packetAt q plain .octets in
+            let h : ℕ = headerIn packet in
+            rows-pass (frontRows limit (recordAt m) packet) (headerRows far (recordAt m) h ++ dataRows (recordAt m) h (dataIn packet) lent) refl (line-front m q plain can)
+            ∙ rw (line-header q plain, line-data q plain, header-A (q % counts) (omega arith), header-D (q % counts) (omega arith))
 
-      -- an arrival opens as is due
-      pub open-arrival : (far next q : ℕ) (plain lent : List ℕ) → far < counts → Sealable limit plain → next ≤ q → q - next < far → length plain ≤ length lent
-          → openResult limit far (recordAt next) (packetAt q plain .octets) lent
-          ≡ finished (suc (q - next)) (recordAt (suc q)) (written plain lent)
-      unfolding openResult
-      open-arrival far next q plain lent bound can low near fits =
-          let text : List ℕ = rc4 (keyAt (suc q)) plain in
-          let long : length text ≡ length plain = run-length (keySchedule (keyAt (suc q))) plain in
-          let made = changes-at next q low (omega arith) in
-          let key = key-at next q made low in
-          let opened : plainFor (recordAt next) (headerAt q) text ≡ plain =
-          unfold plainFor in rw key (run-twice (keySchedule (keyAt (suc q))) plain) in
-          let new : eqb (changesFor (recordAt next) (headerAt q)) 0 ≡ false =
-          ne-eqb (changesFor (recordAt next) (headerAt q)) 0 (λ z. omega (arith, made, z)) in
-          let close : ltb far (changesFor (recordAt next) (headerAt q)) ≡ false =
-          le-ltb far (changesFor (recordAt next) (headerAt q)) (omega (arith, made)) in
-          let roomy : ltb (length lent) (length text) ≡ false = le-ltb (length lent) (length text) (omega (arith, long)) in
-          let carried : offProtocol (plainFor (recordAt next) (headerAt q) text) ≡ false = rw opened (can .1) in
-          let code : openCode limit far (recordAt next) (packetAt q plain .octets) (length lent) ≡ done =
-          line-code far next q plain (length lent) can ∙ rw (new, close, roomy, carried) in
-          rw (code, line-header q plain, line-data q plain, opened, made, key, header-count (q % counts) (omega arith), renewed-at next q)
+        -- an arrival opens as is due
+        pub open-arrival : (next q : ℕ) (plain lent : List ℕ) → far < counts → Sealable limit plain → next ≤ q → q - next < far → length plain ≤ length lent
+            → openResult limit far (recordAt next) (packetAt q plain .octets) lent
+            ≡ finished (suc (q - next)) (recordAt (suc q)) (written plain lent)
+        unfolding openResult
+        open-arrival next q plain lent bound can low near fits =
+            let text : List ℕ = rc4 (keyAt (suc q)) plain in
+            let long : length text ≡ length plain = run-length (keySchedule (keyAt (suc q))) plain in
+            let made = changes-at next q low (omega arith) in
+            let key = key-at next q made low in
+            let opened : plainFor (recordAt next) (headerAt q) text ≡ plain =
+            unfold plainFor in rw key (run-twice (keySchedule (keyAt (suc q))) plain) in
+            let new : eqb (changesFor (recordAt next) (headerAt q)) 0 ≡ false =
+            ne-eqb (changesFor (recordAt next) (headerAt q)) 0 (λ z. omega (arith, made, z)) in
+            let close : ltb far (changesFor (recordAt next) (headerAt q)) ≡ false =
+            le-ltb far (changesFor (recordAt next) (headerAt q)) (omega (arith, made)) in
+            let roomy : ltb (length lent) (length text) ≡ false = le-ltb (length lent) (length text) (omega (arith, long)) in
+            let carried : offProtocol (plainFor (recordAt next) (headerAt q) text) ≡ false = rw opened (can .1) in
+            let code : openCode limit far (recordAt next) (packetAt q plain .octets) (length lent) ≡ done =
+            line-code next q plain (length lent) can ∙ rw (new, close, roomy, carried) in
+            rw (code, line-header q plain, line-data q plain, opened, made, key, header-count (q % counts) (omega arith), renewed-at next q)
 
-      -- the packet that was opened last is a repeat
-      pub repeat-code : (far q : ℕ) (plain : List ℕ) (lent : ℕ) → Sealable limit plain
-          → openCode limit far (recordAt (suc q)) (packetAt q plain .octets) lent ≡ repeat
-      repeat-code far q plain lent can =
-          line-code far (suc q) q plain lent can ∙ rw (eq-eqb (changesFor (recordAt (suc q)) (headerAt q)) 0 (none-at q))
+        -- the packet that was opened last is a repeat
+        pub repeat-code : (q : ℕ) (plain : List ℕ) (lent : ℕ) → Sealable limit plain
+            → openCode limit far (recordAt (suc q)) (packetAt q plain .octets) lent ≡ repeat
+        repeat-code q plain lent can =
+            line-code (suc q) q plain lent can ∙ rw (eq-eqb (changesFor (recordAt (suc q)) (headerAt q)) 0 (none-at q))
 
-      -- one that it has overtaken is late
-      pub late-code : (far next q : ℕ) (plain : List ℕ) (lent : ℕ) → Sealable limit plain → suc q < next → far + (next - suc q) < counts
-          → openCode limit far (recordAt next) (packetAt q plain .octets) lent ≡ late
-      late-code far next q plain lent can low near =
-          let made = behind-at next q low (omega arith) in
-          let away : ℕ = changesFor (recordAt next) (headerAt q) in
-          line-code far next q plain lent can
-          ∙ rw (ne-eqb away 0 (λ z. omega (arith, made, z)), lt-ltb far away (omega (arith, made)))
+        -- one that it has overtaken is late
+        pub late-code : (next q : ℕ) (plain : List ℕ) (lent : ℕ) → Sealable limit plain → suc q < next → far + (next - suc q) < counts
+            → openCode limit far (recordAt next) (packetAt q plain .octets) lent ≡ late
+        late-code next q plain lent can low near =
+            let made = behind-at next q low (omega arith) in
+            let away : ℕ = changesFor (recordAt next) (headerAt q) in
+            line-code next q plain lent can
+            ∙ rw (ne-eqb away 0 (λ z. omega (arith, made, z)), lt-ltb far away (omega (arith, made)))
 
-      -- the receiver's results
-      opens-all : (far most : ℕ) (ps : List Packet) (next : ℕ) (cs : List OpenCall) → far < counts → most < far
-          → AllAt 0 ps → Meets limit far s start ps most next (recordAt next) cs
-          → openRun limit far (recordAt next) cs ≡ due limit far s start ps next (recordAt next) cs
-      unfolding openRun due Meets
-      opens-all far most ps next [] bound below all line = refl
-      opens-all far most ps next (arrival q octets lent ∷ cs) bound below all (known, low, near, same, fits, rest) =
-          let plain : List ℕ = numbered s start ps q .plain in
-          let (at, can) = numbered-at 0 ps q all known in
-          let is : numbered s start ps q ≡ packetAt q plain = rw (zero-add q) at at in
-          let link : numbered s start ps q .link ≡ recordAt (suc q) = ap (λ (p : Packet). p .link) is ∙ unfold packetAt in refl in
-          let opened : openResult limit far (recordAt next) octets lent ≡ finished (suc (q - next)) (recordAt (suc q)) (written plain lent) =
-          rw (same ∙ ap (λ (p : Packet). p .octets) is) (open-arrival far next q plain lent bound can low (omega arith) fits) in
-          rw (opened, link)
-          (ap (λ (rs : List Result). finished (suc (q - next)) (recordAt (suc q)) (written plain lent) ∷ rs)
-          (opens-all far most ps (suc q) cs bound below all (subst (λ (l : Link). Meets limit far s start ps most (suc q) l cs) link rest)))
-      opens-all far most ps next (other octets lent ∷ cs) bound below all (not0, rest) =
-          let r : Result = refusal (openCode limit far (recordAt next) octets (length lent)) (recordAt next) lent in
-          rw (open-other limit far (recordAt next) octets lent not0)
-          (ap (λ (rs : List Result). r ∷ rs) (opens-all far most ps next cs bound below all rest))
+        -- the receiver's results
+        opens-all : (most : ℕ) (ps : List Packet) (next : ℕ) (cs : List OpenCall) → far < counts → most < far
+            → AllAt 0 ps → Meets limit far s start ps most next (recordAt next) cs
+            → openRun limit far (recordAt next) cs ≡ due limit far s start ps next (recordAt next) cs
+        unfolding openRun due Meets
+        opens-all most ps next [] bound below all line = refl
+        opens-all most ps next (arrival q octets lent ∷ cs) bound below all (known, low, near, same, fits, rest) =
+            let plain : List ℕ = numbered s start ps q .plain in
+            let (at, can) = numbered-at 0 ps q all known in
+            let is : numbered s start ps q ≡ packetAt q plain = rw (zero-add q) at at in
+            let link : numbered s start ps q .link ≡ recordAt (suc q) = ap (λ (p : Packet). p .link) is ∙ unfold packetAt in refl in
+            let opened : openResult limit far (recordAt next) octets lent ≡ finished (suc (q - next)) (recordAt (suc q)) (written plain lent) =
+            rw (same ∙ ap (λ (p : Packet). p .octets) is) (open-arrival next q plain lent bound can low (omega arith) fits) in
+            rw (opened, link)
+            (ap (λ (rs : List Result). finished (suc (q - next)) (recordAt (suc q)) (written plain lent) ∷ rs)
+            (opens-all most ps (suc q) cs bound below all (subst (λ (l : Link). Meets limit far s start ps most (suc q) l cs) link rest)))
+        opens-all most ps next (other octets lent ∷ cs) bound below all (not0, rest) =
+            let r : Result = refusal (openCode limit far (recordAt next) octets (length lent)) (recordAt next) lent in
+            rw (open-other limit far (recordAt next) octets lent not0)
+            (ap (λ (rs : List Result). r ∷ rs) (opens-all most ps next cs bound below all rest))
 
 -- demand 3 for every limit, every farthest distance and every number lost in a row below it
 pub demand-3 : (limit far most : ℕ) → far < counts → most < far → Demand3 limit far most
