@@ -1,7 +1,7 @@
 /*
  * A pump station logs in at the control room, both work out the link's keys, and readings go over a line that loses one of
- * them and brings another late. It shows what a program in C does with the library, what the library does with packets that it must not hand up, and
- * what it cannot see. It compiles as C and as C++.
+ * them and brings another late. It shows what a program in C does with the library, what the library does with packets that
+ * it must not hand up, and what it cannot see. It compiles as C and as C++.
  */
 #include "udukemb.h"
 

@@ -8,7 +8,9 @@
 #include <stdlib.h>
 #include <string.h>
 
-enum { SHORT_RUN = 50, LONG_RUN = 3 * 4096, PLACED_RUN = 24000, PERIOD = 8000, MOST_LOST = FARTHEST - 1, MOST_BEHIND = COUNTS - FARTHEST - 1 };
+/* Packets sealed in a run; how many may be lost in a row, and how far behind the last arrival a packet is late. */
+enum { SHORT_RUN = 50, LONG_RUN = 3 * COUNTS, PLACED_RUN = 24000, PERIOD = 8000 };
+enum { MOST_LOST = FARTHEST - 1, MOST_BEHIND = COUNTS - FARTHEST - 1 };
 
 /* An input, and a lent buffer, as two arguments. */
 #define IN(k) l->in[k], t->in[k].n

@@ -1,6 +1,6 @@
-/* A second reading of 01 (the users' specification) and of 02, as far as its requests have landed: what every public call must answer, over OpenSSL and plain C. It shares no code
-   with the library. Each function gives the number of 01's table, and writes its result only where that is 0; a result that is not
-   lent is filled with zeros first. */
+/* A second reading of 01 (the users' specification), and of the requests of 02 that have landed: what every public call must answer, over
+   OpenSSL and plain C. It shares no code with the library. Each function gives the number of the papers' table, and writes its result
+   only where that is 0; a result that is not lent is filled with zeros first. */
 #ifndef ORACLE_H
 #define ORACLE_H
 
