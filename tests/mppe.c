@@ -151,13 +151,13 @@ static void ahead(octet bits, unsigned last, size_t packets)
 static void distances(octet bits)
 {
     static const unsigned marked[][2] = {{4095, 1}, {2, 3}, {4094, 3}, {0, 4095}, {7, 4096}};
-    static const unsigned lasts[] = {0, 255, 2047, 2048, 4094, 4095}, aways[] = {1, 2047, 2048, 2049, 4095};
+    static const unsigned last_counts[] = {0, 255, 2047, 2048, 4094, 4095}, packets[] = {1, 2047, 2048, 2049, 4095};
 
     for (size_t k = 0; k < sizeof marked / sizeof *marked; k++)
         ahead(bits, marked[k][0], marked[k][1]);
-    for (size_t k = 0; k < sizeof lasts / sizeof *lasts; k++)
-        for (size_t j = 0; j < sizeof aways / sizeof *aways; j++)
-            ahead(bits, lasts[k], aways[j]);
+    for (size_t k = 0; k < sizeof last_counts / sizeof *last_counts; k++)
+        for (size_t j = 0; j < sizeof packets / sizeof *packets; j++)
+            ahead(bits, last_counts[k], packets[j]);
 }
 
 /* Packets of a new link, as they arrive on a line that loses 2,047 in a row from the start and again across the wrap, and brings some

@@ -432,12 +432,6 @@ static void seal_next(void)
     run.behind++;
 }
 
-/* How many key changes a packet asks of a record. */
-static unsigned distance(const octets *record, const octets *packet)
-{
-    return (256u * (packet->at[2] - record->at[AT_COUNT]) + packet->at[3] - record->at[AT_COUNT + 1]) % COUNTS;
-}
-
 /* A call of open that must leave the record as it was. */
 static void refuse(const octets *packet, size_t room)
 {
@@ -454,13 +448,15 @@ static void refused_open(void)
 {
     static octets packet, record, out;
     size_t room = one_in(8) ? 0 : one_in(8) ? run.plain.n - 1 : LONGEST_PLAIN;
+    unsigned distance;
 
     copy(&packet, &run.packet);
     copy(&record, &run.receiver);
     fill(&out, room);
     if (!one_in(4))
         damage_arriving(&run.receiver, &packet);
-    if (distance(&record, &packet) > 100 && distance(&record, &packet) <= FARTHEST && !one_in(50))
+    distance = oracle_distance(record.at, part_of(&packet));
+    if (distance > 100 && distance <= FARTHEST && !one_in(50))
         return;
     if (oracle_open(whole(&record), part_of(&packet), whole(&out)).number == DONE)
         return;

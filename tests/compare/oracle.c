@@ -697,13 +697,14 @@ int oracle_seal(buffer record, part plain, buffer out)
     return DONE;
 }
 
-/* The count that a packet carries, and how far it is ahead of a record's: "(arrived count - last count) mod 4,096". */
+/* The count that a packet carries. */
 static unsigned arrived_count(part packet)
 {
     return 256u * (packet.at[2] % 16) + packet.at[3];
 }
 
-static unsigned distance(const octet *record, part packet)
+/* "distance = (arrived count - last count) mod 4,096" */
+unsigned oracle_distance(const octet *record, part packet)
 {
     return (arrived_count(packet) + COUNTS - last_count(record)) % COUNTS;
 }
@@ -719,7 +720,7 @@ static int open_number(buffer record, part packet, size_t room)
         return FLAGS;
     if (arrived_count(packet) == last_count(record.at))
         return REPEAT;
-    if (distance(record.at, packet) > FARTHEST)
+    if (oracle_distance(record.at, packet) > FARTHEST)
         return LATE;
     return room < packet.n - FRONT ? ROOM : DONE;
 }
@@ -733,7 +734,7 @@ opened oracle_open(buffer record, part packet, buffer out)
 
     if (result.number != DONE)
         return result;
-    changes = distance(record.at, packet);
+    changes = oracle_distance(record.at, packet);
     memcpy(next, record.at, RECORD_OCTETS);
     renew(next, changes, arrived_count(packet));
     under_session(next, of(packet.at + FRONT, packet.n - FRONT), plain);

@@ -114,6 +114,9 @@ int oracle_new_link(octet bits, part start, buffer record);
 int oracle_seal(buffer record, part plain, buffer out);
 opened oracle_open(buffer record, part packet, buffer out);
 
+/* How far a packet's count, in its third and fourth octet, is ahead of a record's. */
+unsigned oracle_distance(const octet *record, part packet);
+
 /* The binding key. */
 int oracle_base_key(bool server, part send, part receive, octet out[BASE_KEY]);
 int oracle_binding_key(part material, octet out[BINDING_KEY]);

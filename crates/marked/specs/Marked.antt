@@ -2,11 +2,11 @@
 use mathlib.Core.Path.{_≡_, refl, _∙_}
 use mathlib.Core.Bool.{Bool, true, false}
 use mathlib.Core.List.{List, [], _∷_, _++_}
-use Prim.Native.Nat.{ℕ, _+_}
+use Prim.Native.Nat.{ℕ}
 use native.Mathlib.Omega.{arith}
 use lib.ListN.{length}
 use Rattle.answer.specs.Answer.{done, strength, late, outside, firstOf}
-use Rattle.answer.specs.Laws.{rows-pass, within, outside-none}
+use Rattle.answer.specs.Laws.{rows-pass}
 use Rattle.mppe_keys.specs.declared.Strength.the-variants.{Bits40, Bits56, Bits128}
 use Rattle.mppe_keys.specs.Keys.{headOf, reduced}
 use Rattle.ccp.specs.declared.Mode.the-variants.{Stateless}
@@ -16,7 +16,8 @@ use Rattle.ccp.specs.declared.Reply.the-variants.{CounterOffer, Refused}
 use Rattle.ccp.specs.Option.{modeOf, strengthsOf, wordOf, only}
 use Rattle.ccp.specs.Answers.{readCode, supportedBits, readAnswer, replyCode, chosen, replyWith, replyAnswer, replyWord}
 use Rattle.mppe.specs.declared.Link.{Link}
-use Rattle.mppe.specs.Link.{shortestPlain, longestPlain, front, farthest, wellFormed, distance, header, headerIn, refusal, frontRows, headerRows, dataRows, openCode, openResult}
+use Rattle.mppe.specs.Link.{shortestPlain, longestPlain, farthest, wellFormed, distance, header, headerIn, refusal, frontRows, headerRows, dataRows, openCode, openResult}
+use Rattle.mppe.specs.Laws.{front-none}
 use Rattle.mppe.specs.Demand3.{open-other}
 use Rattle.sstp.specs.Binding.{lengthOctets}
 
@@ -86,12 +87,8 @@ unfolding openCode
 k4-late l text out well last long =
     let packet : List ℕ = 0x00 ∷ 0xFD ∷ header 4095 ++ text in
     let h : ℕ = headerIn packet in
-    let (low, high) = within shortestPlain longestPlain (length text) long in
-    let whole : outside (front + shortestPlain) (front + longestPlain) (length packet) ≡ false =
-    outside-none (front + shortestPlain) (front + longestPlain) (length packet) (omega arith) (omega arith) in
-    let shaped : firstOf (frontRows longestPlain l packet) ≡ done = rw (well, whole) in
     let rest : List (ℕ × Bool) = headerRows farthest l h ++ dataRows l h text (length out) in
     let refused : firstOf rest ≡ late = rw last in
     let code : openCode longestPlain farthest l packet (length out) ≡ late =
-    rows-pass (frontRows longestPlain l packet) rest refl shaped ∙ refused in
+    rows-pass (frontRows longestPlain l packet) rest refl (front-none longestPlain l 4095 text well long) ∙ refused in
     open-other longestPlain farthest l packet out (λ z. omega (arith, code, z)) ∙ rw code

@@ -5,12 +5,12 @@ use mathlib.Core.List.{List, [], _∷_, _++_, append-assoc, append-nil}
 use Prim.Native.Nat.{ℕ, zero, suc, _+_, _*_, _-_, _/_, _%_, _^_, _<_, _≤_}
 use native.Mathlib.Numerals.{add-one}
 use native.Mathlib.Omega.{arith}
-use lib.Dec.{eqb, ltb, lit≤}
+use lib.Dec.{ltb, lit≤}
 use lib.ListN.{length, take, drop, getD, replicate, drop-of-length-le, length-append, length-drop}
 use lib.Seq.{drop-cons, drop-drop, drop-length, take-all, take-at, drop-at}
 use borrow.Author.Tests.{lt-ltb, le-ltb, eq-eqb, ne-eqb, ltb-true, ltb-false, eqb-false, not-true, not-false}
 use borrow.Rule.Slice.PartMut.{putMid}
-use Rattle.answer.specs.Answer.{done, shape, room, size, protocol, flags, repeat, notRecord, outside, wrong, firstOf, onDone, oneCode}
+use Rattle.answer.specs.Answer.{done, shape, room, size, protocol, repeat, notRecord, outside, wrong, firstOf, onDone, oneCode}
 use Rattle.answer.specs.Laws.{clear, rows-pass, rows-stop, not-done, outside-low, within, right, right-length}
 use Rattle.octets.specs.Octets.{written}
 use Rattle.rc4.specs.declared.Rc4.{Rc4}
@@ -19,12 +19,12 @@ use Rattle.rc4.specs.Answers.{runOut}
 use Rattle.rc4.specs.Laws.{run-done}
 use Rattle.mppe_keys.specs.declared.Strength.{Strength}
 use Rattle.mppe_keys.specs.declared.Key.{Key}
-use Rattle.mppe_keys.specs.Keys.{keyLength, headOf, begins, changes, initialKey, rc4}
+use Rattle.mppe_keys.specs.Keys.{keyLength, headOf, begins, changes, rc4}
 use Rattle.mppe_keys.specs.Answers.{keyAnswer, initialKeyAnswer, placedChanges}
 use Rattle.mppe_keys.specs.Laws.{key-placed, key-most, keyChange-length, changes-one}
 use Rattle.mppe.specs.declared.Link.{Link}
 use Rattle.mppe.specs.declared.Outcome.{Outcome}
-use Rattle.mppe.specs.Link.{shortestPlain, longestPlain, front, counts, newCount, zeros, wellFormed, startKeyIn, sessionKeyIn, renewed, newLink, newLinkCode, offProtocol, bitA, bitD, header, sealedPacket, headerIn, dataIn, countOf, lacks, Result, refusal}
+use Rattle.mppe.specs.Link.{shortestPlain, longestPlain, front, counts, newCount, zeros, wellFormed, startKeyIn, sessionKeyIn, renewed, newLink, newLinkCode, offProtocol, bitA, bitD, header, sealedPacket, headerIn, dataIn, countOf, Result, refusal}
 use Rattle.mppe.specs.Link.{plainRows, nextCount, nextKey, sealCode, sealResult, changesFor, keyFor, plainFor, linkAfter, frontRows, headerRows, dataRows, openCode, openResult}
 use Rattle.mppe.specs.Inner.{frontCode, roomRows, headerCode, dataResult}
 use Rattle.mppe.specs.Laws.{both, key-back}

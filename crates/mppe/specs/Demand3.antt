@@ -11,16 +11,16 @@ use lib.Dec.{eqb, ltb, lit<}
 use lib.ListN.{length}
 use borrow.Author.Tests.{lt-ltb, le-ltb, eq-eqb, ne-eqb}
 use Rattle.answer.specs.Answer.{done, size, protocol, repeat, late, outside, firstOf, onDone, wrong}
-use Rattle.answer.specs.Laws.{clear, rows-pass, not-done, outside-none, within, right, right-length}
-use Rattle.octets.specs.Octets.{pairAt, written}
+use Rattle.answer.specs.Laws.{clear, rows-pass, not-done, right, right-length}
+use Rattle.octets.specs.Octets.{written}
 use Rattle.rc4.specs.Cipher.{keySchedule}
 use Rattle.rc4.specs.Laws.{run-length, run-twice}
 use Rattle.mppe_keys.specs.declared.Strength.{Strength}
 use Rattle.mppe_keys.specs.Keys.{keyLength, initialKey, keyChange, changes, rc4}
 use Rattle.mppe_keys.specs.Laws.{initialKey-length, initialKey-head, changes-length, changes-head, changes-add}
 use Rattle.mppe.specs.declared.Link.{Link}
-use Rattle.mppe.specs.Link.{shortestPlain, longestPlain, front, counts, newCount, farthest, wellFormed, startKeyIn, sessionKeyIn, renewed, nextKey, nextCount, linkOf, newLink, newLinkCode, offProtocol, bitA, bitD, sealedPacket, headerIn, dataIn, countOf, Result, finished, refusal, plainRows, sealCode, sealResult, changesFor, keyFor, plainFor, frontRows, headerRows, dataRows, openCode, openResult}
-use Rattle.mppe.specs.Laws.{key-back, well, sealed-length, sealed-header, header-count, header-A, header-D, distance-is, distance-behind}
+use Rattle.mppe.specs.Link.{shortestPlain, longestPlain, counts, newCount, farthest, wellFormed, startKeyIn, sessionKeyIn, renewed, nextKey, nextCount, linkOf, newLink, newLinkCode, offProtocol, bitA, bitD, sealedPacket, headerIn, dataIn, distance, Result, finished, refusal, plainRows, sealCode, sealResult, changesFor, keyFor, plainFor, frontRows, headerRows, dataRows, openCode, openResult}
+use Rattle.mppe.specs.Laws.{key-back, well, front-none, sealed-header, header-count, header-A, header-D, distance-is, distance-none, distance-behind}
 use Rattle.mppe.specs.Run.{mostLost, SealCall, OpenCall, arrival, other, Packet, History, sealRun, openRun, saidCode, first, beginning, packetOf, onward, packets, said, numbered, Meets, due, Demand3}
 
 -- a packet that may be sealed: its plain packet is within the limit and has a protocol number that is carried
@@ -112,9 +112,9 @@ module _ (s : Strength) (start : List ℕ) where
     abbrev headerAt : ℕ → ℕ
     headerAt q = bitA + bitD + q % counts
 
-    changes-at : (next q : ℕ) → next ≤ q → suc (q - next) < counts → changesFor (recordAt next) (headerAt q) ≡ suc (q - next)
+    changes-at : (next q : ℕ) → changesFor (recordAt next) (headerAt q) ≡ distance ((next + newCount) % counts) (q % counts)
     unfolding recordAt
-    changes-at next q low near = rw (header-count (q % counts) (omega arith)) (distance-is next q low near)
+    changes-at next q = rw (header-count (q % counts) (omega arith))
 
     key-at : (next q : ℕ) → changesFor (recordAt next) (headerAt q) ≡ suc (q - next) → next ≤ q → keyFor (recordAt next) (headerAt q) ≡ keyAt (suc q)
     unfolding keyFor recordAt
@@ -123,16 +123,6 @@ module _ (s : Strength) (start : List ℕ) where
         let add : changes s start (suc (q - next)) (keyAt next) ≡ keyAt (next + suc (q - next)) =
         unfold keyAt in changes-add s start next (suc (q - next)) (initialKey s start) in
         rw (e, start-in next, session-in next) (add ∙ ap keyAt all)
-
-    -- .. of one that this packet has overtaken ..
-    behind-at : (next q : ℕ) → suc q < next → next - suc q < counts → changesFor (recordAt next) (headerAt q) ≡ counts - (next - suc q)
-    unfolding recordAt
-    behind-at next q low near = rw (header-count (q % counts) (omega arith)) (distance-behind next q low near)
-
-    -- .. and of the packet that it opened last
-    none-at : (q : ℕ) → changesFor (recordAt (suc q)) (headerAt q) ≡ 0
-    unfolding recordAt
-    none-at q = rw (header-count (q % counts) (omega arith)) (omega arith)
 
     -- `limit` is the longest plain packet
     module _ (limit : ℕ) where
@@ -223,14 +213,9 @@ module _ (s : Strength) (start : List ℕ) where
       line-data q plain = refl
 
       line-front : (m q : ℕ) (plain : List ℕ) → Sealable limit plain → firstOf (frontRows limit (recordAt m) (packetAt q plain .octets)) ≡ done
+      unfolding packetAt sealedPacket
       line-front m q plain can =
-          let packet : List ℕ = packetAt q plain .octets in
-          let long : length packet ≡ front + length plain = unfold packetAt in sealed-length (keyAt (suc q)) (q % counts) plain in
-          let (low, high) = within shortestPlain limit (length plain) (can .0) in
-          let whole : outside (front + shortestPlain) (front + limit) (length packet) ≡ false =
-          outside-none (front + shortestPlain) (front + limit) (length packet) (omega (arith, long, low)) (omega (arith, long, high)) in
-          let pair : eqb (pairAt 0 packet) 0x00FD ≡ true = unfold packetAt sealedPacket in refl in
-          rw (well-at m, whole, pair)
+          front-none limit (recordAt m) (q % counts) (rc4 (keyAt (suc q)) plain) (well-at m) (rw (run-length (keySchedule (keyAt (suc q))) plain) (can .0))
 
       -- and `far` the farthest distance that is opened
       module _ (far : ℕ) where
@@ -255,7 +240,7 @@ module _ (s : Strength) (start : List ℕ) where
         open-arrival next q plain lent bound can low near fits =
             let text : List ℕ = rc4 (keyAt (suc q)) plain in
             let long : length text ≡ length plain = run-length (keySchedule (keyAt (suc q))) plain in
-            let made = changes-at next q low (omega arith) in
+            let made : changesFor (recordAt next) (headerAt q) ≡ suc (q - next) = rw (changes-at next q) (distance-is next q low (omega arith)) in
             let key = key-at next q made low in
             let opened : plainFor (recordAt next) (headerAt q) text ≡ plain =
             unfold plainFor in rw key (run-twice (keySchedule (keyAt (suc q))) plain) in
@@ -273,13 +258,13 @@ module _ (s : Strength) (start : List ℕ) where
         pub repeat-code : (q : ℕ) (plain : List ℕ) (lent : ℕ) → Sealable limit plain
             → openCode limit far (recordAt (suc q)) (packetAt q plain .octets) lent ≡ repeat
         repeat-code q plain lent can =
-            line-code (suc q) q plain lent can ∙ rw (eq-eqb (changesFor (recordAt (suc q)) (headerAt q)) 0 (none-at q))
+            line-code (suc q) q plain lent can ∙ rw (eq-eqb (changesFor (recordAt (suc q)) (headerAt q)) 0 (changes-at (suc q) q ∙ distance-none q))
 
         -- one that it has overtaken is late
         pub late-code : (next q : ℕ) (plain : List ℕ) (lent : ℕ) → Sealable limit plain → suc q < next → far + (next - suc q) < counts
             → openCode limit far (recordAt next) (packetAt q plain .octets) lent ≡ late
         late-code next q plain lent can low near =
-            let made = behind-at next q low (omega arith) in
+            let made = changes-at next q ∙ distance-behind next q low (omega arith) in
             let away : ℕ = changesFor (recordAt next) (headerAt q) in
             line-code next q plain lent can
             ∙ rw (ne-eqb away 0 (λ z. omega (arith, made, z)), lt-ltb far away (omega (arith, made)))

@@ -9,14 +9,12 @@ use lib.Dec.{eqb, ltb}
 use lib.ListN.{length, take, drop, getD, replicate}
 use lib.Seq.{take-append-seam, drop-append-seam}
 use borrow.Author.Tests.{lt-ltb, le-ltb, eq-eqb, ne-eqb, ltb-false}
-use Rattle.answer.specs.Answer.{repeat, late, firstOf}
-use Rattle.answer.specs.Laws.{clear}
-use Rattle.rc4.specs.Cipher.{keySchedule}
-use Rattle.rc4.specs.Laws.{run-length}
+use Rattle.answer.specs.Answer.{done, repeat, late, outside, firstOf}
+use Rattle.answer.specs.Laws.{clear, within, outside-none}
 use Rattle.mppe_keys.specs.declared.Strength.{Strength}
 use Rattle.mppe_keys.specs.Keys.{keyLength, headOf, begins, placed}
 use Rattle.mppe.specs.declared.Link.{Link}
-use Rattle.mppe.specs.Link.{front, counts, newCount, zeros, wellFormed, linkOf, bitA, bitD, sealedPacket, headerIn, countOf, lacks, dataIn, distance, changesFor, openRows, openCode, openedBy, openResult}
+use Rattle.mppe.specs.Link.{shortestPlain, front, counts, newCount, zeros, wellFormed, linkOf, bitA, bitD, header, sealedPacket, headerIn, countOf, lacks, dataIn, distance, changesFor, frontRows, openRows, openCode, openedBy, openResult}
 
 -- both of two tests hold
 pub both : (a b : Bool) → a && b ≡ true → (a ≡ true) × (b ≡ true)
@@ -54,11 +52,17 @@ well s start session count hs hk head h =
     let b : begins (headOf s) (placed session) ≡ true = unfold placed in begins-front (headOf s) session (replicate (16 - length session) 0) head in
     rw (lt-ltb count counts h, places-zero s start hs, places-zero s session hk, b)
 
--- the length of a sealed packet, and what its header says
-pub sealed-length : (session : List ℕ) (count : ℕ) (plain : List ℕ) → length (sealedPacket session count plain) ≡ front + length plain
-unfolding sealedPacket
-sealed-length session count plain = omega (arith, run-length (keySchedule session) plain)
+-- a packet with data of a carried length passes the rows that the record and the packet's shape decide
+pub front-none : (limit : ℕ) (l : Link) (count : ℕ) (text : List ℕ) → wellFormed l ≡ true → outside shortestPlain limit (length text) ≡ false
+    → firstOf (frontRows limit l (0x00 ∷ 0xFD ∷ header count ++ text)) ≡ done
+front-none limit l count text well long =
+    let packet : List ℕ = 0x00 ∷ 0xFD ∷ header count ++ text in
+    let (low, high) = within shortestPlain limit (length text) long in
+    let whole : outside (front + shortestPlain) (front + limit) (length packet) ≡ false =
+    outside-none (front + shortestPlain) (front + limit) (length packet) (omega arith) (omega arith) in
+    rw (well, whole)
 
+-- what a sealed packet's header says
 pub sealed-header : (session : List ℕ) (count : ℕ) (plain : List ℕ) → count < counts → headerIn (sealedPacket session count plain) ≡ bitA + bitD + count
 unfolding sealedPacket
 sealed-header session count plain h = omega arith
@@ -80,7 +84,11 @@ header-D count h =
 pub distance-is : (next q : ℕ) → next ≤ q → suc (q - next) < counts → distance ((next + newCount) % counts) (q % counts) ≡ suc (q - next)
 distance-is next q low near = omega arith
 
--- .. and to that of a packet that the last one opened has overtaken
+-- .. to that of the packet before it, which the record holds ..
+pub distance-none : (q : ℕ) → distance ((suc q + newCount) % counts) (q % counts) ≡ 0
+distance-none q = omega arith
+
+-- .. and to that of one that this packet has overtaken
 pub distance-behind : (next q : ℕ) → suc q < next → next - suc q < counts → distance ((next + newCount) % counts) (q % counts) ≡ counts - (next - suc q)
 distance-behind next q low near = omega arith
 

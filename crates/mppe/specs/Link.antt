@@ -1,11 +1,11 @@
 -- The link record, and what new link, seal and open give in stateless mode (01, "Keys" and "Packets and counts"; RFC 3078, 3 and 7).
 -- A record is the code's own struct. `limit` is the longest plain packet, `far` the farthest distance that is opened.
-use mathlib.Core.Bool.{Bool, true, false, not, _&&_}
+use mathlib.Core.Bool.{Bool, true, not, _&&_}
 use mathlib.Core.List.{List, [], _∷_, _++_}
-use Prim.Native.Nat.{ℕ, _+_, _*_, _-_, _/_, _%_}
+use Prim.Native.Nat.{ℕ, _+_, _-_, _/_, _%_}
 use lib.Dec.{eqb, ltb}
-use lib.ListN.{length, take, drop, getD, replicate}
-use Rattle.answer.specs.Answer.{done, shape, room, size, protocol, flags, repeat, notRecord, late, pick, outside, wrong, firstOf, onDone}
+use lib.ListN.{length, take, drop, replicate}
+use Rattle.answer.specs.Answer.{done, shape, room, size, protocol, flags, repeat, notRecord, late, outside, wrong, firstOf, onDone}
 use Rattle.octets.specs.Octets.{bigEndian, pairAt, written}
 use Rattle.mppe_keys.specs.declared.Strength.{Strength}
 use Rattle.mppe_keys.specs.Keys.{keyLength, headOf, begins, initialKey, rc4, keyChange, changes, placed}
