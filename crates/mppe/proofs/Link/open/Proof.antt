@@ -4,12 +4,6 @@ use Rattle.mppe.proofs.Laws.{open-refused, front-passed, data-bounds, o
 use borrow.Author.Needs.{needs}
 use Rattle.mppe.proofs.Link.open.Statement.{statement}
 use Rattle.mppe.proofs.Link.open.Tie as tie
-use Rattle.mppe.proofs.Link.open.Reads as reads
-use Rattle.mppe.proofs.Link.open.Lts as lts
-use Rattle.mppe.proofs.Link.open_data.Reads as open-data-reads
-use Rattle.mppe.proofs.front_code.Reads as front-code-reads
-use Rattle.mppe.proofs.refused.Reads as refused-reads
-use Rattle.octets.proofs.pair.Reads as pair-reads
 
 front-code-requires : tie.Need-front-code-requires
 front-code-requires c κs = search needs

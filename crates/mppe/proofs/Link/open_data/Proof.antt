@@ -4,15 +4,6 @@ use Rattle.mppe.proofs.Laws.{count-bound, data-refused, data-off, data-
 use borrow.Author.Needs.{needs}
 use Rattle.mppe.proofs.Link.open_data.Statement.{statement}
 use Rattle.mppe.proofs.Link.open_data.Tie as tie
-use Rattle.mppe.proofs.Link.open_data.Reads as reads
-use Rattle.mppe.proofs.Link.open_data.Lts as lts
-use Rattle.mppe.proofs.cipher_of.Reads as cipher-of-reads
-use Rattle.mppe.proofs.distance.Reads as distance-reads
-use Rattle.mppe.proofs.header_code.Reads as header-code-reads
-use Rattle.mppe.proofs.moved.Reads as moved-reads
-use Rattle.mppe.proofs.refused.Reads as refused-reads
-use Rattle.mppe.proofs.runs_off_protocol.Reads as runs-off-protocol-reads
-use Rattle.rc4.proofs.Rc4.run.Reads as run-reads
 
 distance-requires : tie.Need-distance-requires
 distance-requires c κs = let s = c .before .before in (count-bound (s .args .self) (s .pre .0), omega arith)

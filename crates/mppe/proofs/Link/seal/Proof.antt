@@ -5,15 +5,6 @@ use Rattle.mppe.proofs.Laws.{seal-refused, seal-passed, front-long, sea
 use borrow.Author.Needs.{needs}
 use Rattle.mppe.proofs.Link.seal.Statement.{statement}
 use Rattle.mppe.proofs.Link.seal.Tie as tie
-use Rattle.mppe.proofs.Link.seal.Reads as reads
-use Rattle.mppe.proofs.Link.seal.Lts as lts
-use Rattle.mppe.proofs.cipher_of.Reads as cipher-of-reads
-use Rattle.mppe.proofs.moved.Reads as moved-reads
-use Rattle.mppe.proofs.next_count.Reads as next-count-reads
-use Rattle.mppe.proofs.put_front.Reads as put-front-reads
-use Rattle.mppe.proofs.refused.Reads as refused-reads
-use Rattle.mppe.proofs.seal_code.Reads as seal-code-reads
-use Rattle.rc4.proofs.Rc4.run.Reads as run-reads
 
 seal-code-requires : tie.Need-seal-code-requires
 seal-code-requires c κs = search needs

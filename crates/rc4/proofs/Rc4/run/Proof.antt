@@ -6,7 +6,6 @@ use Rattle.rc4.specs.Laws.{run-done}
 use Rattle.rc4.proofs.Texts.{too-long, no-room}
 use Rattle.rc4.proofs.Rc4.run.Statement.{statement}
 use Rattle.rc4.proofs.Rc4.run.Tie as tie
-use Rattle.rc4.proofs.run_text.Reads as run_text-reads
 
 returns : tie.Need-returns
 returns c = too-long _ _ _ (c .if1 .taken)
