@@ -233,6 +233,26 @@ static void draws(void)
     both_draws("draws from a box made by hand", state);
 }
 
+/* Whether boxes are permutations: a key's, one after a draw, one of zeros, and a key's with each cell made the next one's copy. */
+static void permutations(void)
+{
+    octet state[RC4_STATE], zeros[RC4_STATE] = {0}, tells[256];
+
+    keyed(of(counted, 16), state);
+    for (int n = 0; n < 256; n++) {
+        octet cell = state[n];
+
+        state[n] = state[(n + 1) % 256];
+        tells[n] = (octet)oracle_rc4_permutation(state);
+        state[n] = cell;
+    }
+    line("box of a key, a permutation", oracle_rc4_permutation(state), NULL, 0);
+    oracle_rc4_draw(state);
+    line("after a draw", oracle_rc4_permutation(state), NULL, 0);
+    line("box of zeros", oracle_rc4_permutation(zeros), NULL, 0);
+    line("each number missing", 0, tells, sizeof tells);
+}
+
 /* A text under the key of 128 bits: the whole buffer, and draws after it. */
 static void buffered(const char *label, size_t n, size_t room)
 {
@@ -300,6 +320,7 @@ int main(void)
     box_of(256);
     box_of(257);
     draws();
+    permutations();
     buffered("buffer with room left", 9, 12);
     buffered("buffer as long as the text", 12, 12);
     buffered("buffer one octet too short", 13, 12);

@@ -192,6 +192,16 @@ octet oracle_rc4_draw(octet state[RC4_STATE])
     return state[(octet)(state[i] + state[j])];
 }
 
+/* Whether no two cells of the box are the same. */
+int oracle_rc4_permutation(const octet state[RC4_STATE])
+{
+    for (int a = 0; a < 256; a++)
+        for (int b = 0; b < a; b++)
+            if (state[a] == state[b])
+                return 0;
+    return 1;
+}
+
 /* A text XORed with draws: "3, 2". */
 int oracle_rc4_run(octet state[RC4_STATE], part text, buffer out)
 {

@@ -11,7 +11,7 @@ use lib.Seq.{drop-cons, drop-drop, drop-length, take-all, take-at, drop-at}
 use borrow.Author.Tests.{lt-ltb, le-ltb, eq-eqb, ne-eqb, ltb-true, ltb-false, eqb-false, not-true, not-false}
 use borrow.Rule.Slice.PartMut.{putMid}
 use Rattle.answer.specs.Answer.{done, shape, room, size, protocol, repeat, notRecord, outside, wrong, firstOf, onDone, oneCode}
-use Rattle.answer.specs.Laws.{clear, rows-pass, rows-stop, not-done, outside-low, within, right, right-length}
+use Rattle.answer.specs.Laws.{both, clear, rows-pass, rows-stop, not-done, outside-low, within, right, right-length}
 use Rattle.octets.specs.Octets.{written}
 use Rattle.rc4.specs.declared.Rc4.{Rc4}
 use Rattle.rc4.specs.Cipher.{keySchedule, run}
@@ -27,7 +27,7 @@ use Rattle.mppe.specs.declared.Outcome.{Outcome}
 use Rattle.mppe.specs.Link.{shortestPlain, longestPlain, front, counts, newCount, zeros, wellFormed, startKeyIn, sessionKeyIn, renewed, newLink, newLinkCode, offProtocol, bitA, bitD, header, sealedPacket, headerIn, dataIn, countOf, Result, refusal}
 use Rattle.mppe.specs.Link.{plainRows, nextCount, nextKey, sealCode, sealResult, changesFor, keyFor, plainFor, linkAfter, frontRows, headerRows, dataRows, openCode, openResult}
 use Rattle.mppe.specs.Inner.{frontCode, roomRows, headerCode, dataResult}
-use Rattle.mppe.specs.Laws.{both, key-back}
+use Rattle.mppe.specs.Laws.{key-back}
 
 -- one place more that is 0, one that is not, and the end of the places
 pub zeros-more : {b : Bool} (l : List ℕ) (i : ℕ) → b ≡ zeros (drop i l) → getD l i 0 ≡ 0 → i < length l → b ≡ zeros (drop (i + 1) l)

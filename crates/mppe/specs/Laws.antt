@@ -1,6 +1,6 @@
 -- What holds of records, packets and counts, once over the strengths.
 use mathlib.Core.Path.{_≡_, refl, ap}
-use mathlib.Core.Bool.{Bool, true, false, _&&_, false≢true}
+use mathlib.Core.Bool.{Bool, true, false}
 use mathlib.Core.List.{List, [], _∷_, _++_}
 use Prim.Native.Nat.{ℕ, zero, suc, _+_, _-_, _/_, _%_, _<_, _≤_}
 use native.Mathlib.Nat.{suc-ne-zero}
@@ -10,16 +10,11 @@ use lib.ListN.{length, take, drop, getD, replicate}
 use lib.Seq.{take-append-seam, drop-append-seam}
 use borrow.Author.Tests.{lt-ltb, le-ltb, eq-eqb, ne-eqb, ltb-false}
 use Rattle.answer.specs.Answer.{done, repeat, late, outside, firstOf}
-use Rattle.answer.specs.Laws.{clear, within, outside-none}
+use Rattle.answer.specs.Laws.{both, clear, within, outside-none}
 use Rattle.mppe_keys.specs.declared.Strength.{Strength}
 use Rattle.mppe_keys.specs.Keys.{keyLength, headOf, begins, placed}
 use Rattle.mppe.specs.declared.Link.{Link}
 use Rattle.mppe.specs.Link.{shortestPlain, front, counts, newCount, zeros, wellFormed, linkOf, bitA, bitD, header, sealedPacket, headerIn, countOf, lacks, dataIn, distance, changesFor, frontRows, openRows, openCode, openedBy, openResult}
-
--- both of two tests hold
-pub both : (a b : Bool) → a && b ≡ true → (a ≡ true) × (b ≡ true)
-both true b e = (refl, e)
-both false b e = absurd (false≢true e)
 
 -- zeros are zeros
 pub zeros-all : (n : ℕ) → zeros (replicate n 0) ≡ true

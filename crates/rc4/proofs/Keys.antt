@@ -12,7 +12,7 @@ use Rattle.answer.specs.Answer.{size}
 use Rattle.rc4.specs.declared.Keyed.{Keyed}
 use Rattle.rc4.specs.Cipher.{box, below, swap, roundJ, round, rounds}
 use Rattle.rc4.specs.Inner.{OctetCells}
-use Rattle.rc4.specs.Laws.{below-length}
+use Rattle.rc4.specs.Permutation.{below-length}
 use Rattle.rc4.proofs.Boxes.{swap-octets}
 use Rattle.rc4.specs.Answers.{shortestKey, longestKey, keyedAnswer}
 

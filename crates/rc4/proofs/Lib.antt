@@ -3,3 +3,4 @@ pub mod Draws
 pub mod Keys
 pub mod Runs
 pub mod Texts
+pub mod Marks

@@ -1,7 +1,9 @@
 -- RC4 in the words of 01, "Digests, DES and RC4". A state is the code's own struct: the box and both indices.
+use mathlib.Core.Bool.{Bool, true, false, _&&_, _||_}
 use mathlib.Core.List.{List, [], _∷_, _++_}
 use Prim.Native.Nat.{ℕ, zero, suc, _+_, _%_}
 use lib.Bits.{bitXor}
+use lib.Dec.{eqb}
 use lib.ListN.{length, getD, set}
 use Rattle.rc4.specs.declared.Rc4.{Rc4}
 
@@ -60,3 +62,17 @@ run s (x ∷ xs) = bitXor x (drawn s) ∷ run (step s) xs
 unfoldable pub after : Rc4 → List ℕ → Rc4
 after s [] = s
 after s (x ∷ xs) = after (step s) xs
+
+-- n stands in one of the cells
+unfoldable pub among : ℕ → List ℕ → Bool
+among n [] = false
+among n (x ∷ xs) = eqb x n || among n xs
+
+-- every number below n does
+unfoldable pub allAmong : ℕ → List ℕ → Bool
+allAmong zero cells = true
+allAmong (suc n) cells = allAmong n cells && among n cells
+
+-- "the box a permutation" (02, M-103): 256 cells, and every number from 0 to 255 stands in one of them
+unfoldable pub permutation : List ℕ → Bool
+permutation cells = eqb (length cells) 256 && allAmong 256 cells

@@ -1,12 +1,14 @@
 -- What the contracts of functions over a box in place, of words, say beside RC4's own definitions.
 use mathlib.Core.Path.{_≡_}
+use mathlib.Core.Bool.{Bool}
 use mathlib.Core.List.{List, [], _∷_}
 use Prim.Native.Nat.{ℕ, _+_, _*_, _%_, _^_, _<_, _≤_}
 use lib.Bits.{bitXor}
 use lib.ListN.{length, getD}
+use Rattle.answer.specs.Answer.{pick}
 use Rattle.octets.specs.Octets.{written}
 use Rattle.rc4.specs.declared.Rc4.{Rc4}
-use Rattle.rc4.specs.Cipher.{box, run, after}
+use Rattle.rc4.specs.Cipher.{box, run, after, among, allAmong}
 
 -- the state of a box whose indices are carried on without being wrapped mod 256
 abbrev pub wrapped : List ℕ → ℕ → ℕ → Rc4
@@ -40,3 +42,14 @@ pub record Finished (cells : List ℕ) (i j : ℕ) (text out cells′ : List ℕ
   pub stepped : wrapped cells′ (i + length text) j′ ≡ after (wrapped cells i j) text
   pub whole : OctetCells cells′
   pub near : j′ ≤ j + 255 * length text
+
+-- marks for the numbers below 256: 1 where the number stands in one of the cells, else 0
+abbrev pub mark : Bool → ℕ
+mark here = pick here 1 0
+
+unfoldable pub Marked : (cells marks : List ℕ) → Type 0
+Marked cells marks = (length marks ≡ 256) × ((n : ℕ) → n < 256 → getD marks n 0 ≡ mark (among n cells))
+
+-- whether marks are all set, whichever cells they are those of
+abbrev pub Tells : (marks : List ℕ) (all : Bool) → Type 0
+Tells marks all = (cells : List ℕ) → Marked cells marks → all ≡ allAmong 256 cells

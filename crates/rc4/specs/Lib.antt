@@ -4,5 +4,6 @@ pub mod Cipher
 pub mod Answers
 -- Laws, which follow from these.
 pub mod Laws
+pub mod Permutation
 -- What the contracts of private functions alone say: nothing of a public call rests on reading it.
 pub mod Inner

@@ -3,9 +3,9 @@ ghost use mathlib.Core.Path.{_≡_};
 ghost use Prim.Native.Nat.{_+_, _%_, _^_, _<_, _≤_};
 ghost use lib.ListN.{length, getD, replicate};
 ghost use Rattle.octets.specs.Octets.{written, longestText};
-ghost use Rattle.rc4.specs.Cipher.{below, swap, rounds, step, drawn, run, after};
+ghost use Rattle.rc4.specs.Cipher.{below, permutation, swap, rounds, step, drawn, run, after};
 ghost use Rattle.rc4.specs.Answers.{keyedAnswer, drawAnswer, runAnswer, runOut, applyCode, applyOut};
-ghost use Rattle.rc4.specs.Inner.{wrapped, firstCell, xors, OctetCells, Ready, Finished};
+ghost use Rattle.rc4.specs.Inner.{wrapped, firstCell, xors, OctetCells, Ready, Finished, Marked, Tells};
 
 // The shortest key (01, "Lengths").
 pub const SHORTEST_KEY: usize = 1;
@@ -106,6 +106,14 @@ impl Rc4 {
             answer: answer::DONE,
             state,
         }
+    }
+
+    // Whether the box is a permutation of 0 to 255.
+    pub fn is_permutation(self) -> bool
+        ensures { λ r. ⌜ r ≡ permutation (self .cells) ⌝ }
+    {
+        let cells = self.cells;
+        all_marked(marked(cells))
     }
 }
 
@@ -461,4 +469,30 @@ fn octet(x: usize) -> u8
     ensures { λ r. ⌜ r ≡ x % 256 ⌝ }
 {
     (x % 256) as u8
+}
+
+// A mark for each number that stands in one of the cells.
+fn marked(cells: [u8; 256]) -> [u8; 256]
+    ensures { λ r. ⌜ Marked cells r ⌝ }
+{
+    let mut marks = [0u8; 256];
+    let mut i = 0;
+    while i < 256 {
+        marks[index(cells[i])] = 1;
+        i += 1;
+    }
+    marks
+}
+
+// Whether every number is marked.
+fn all_marked(marks: [u8; 256]) -> bool
+    ensures { λ r. ⌜ Tells marks r ⌝ }
+{
+    let mut all = 1u8;
+    let mut n = 0;
+    while n < 256 {
+        all = all & marks[n];
+        n += 1;
+    }
+    all == 1
 }

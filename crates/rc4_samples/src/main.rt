@@ -1,6 +1,6 @@
 // Runs RC4 on the vectors of RFC 6229 and at the limits of 01, and prints what it answers.
 ghost use mathlib.Core.Path.{_≡_};
-ghost use Prim.Native.Nat.{_≤_};
+ghost use Prim.Native.Nat.{_<_, _≤_};
 ghost use lib.ListN.{length};
 ghost use Rattle.rc4.specs.Answers.{drawAnswer};
 use rc4::Drawn;
@@ -92,6 +92,7 @@ fn main() {
     vectors(32);
     keys();
     draws();
+    permutations();
     buffers();
     lengths();
     parts();
@@ -244,6 +245,43 @@ fn drawn_in_place(state: Rc4) -> Drawn
     let mut g = state;
     let octet = rc4::draw_next(&mut g);
     Drawn { octet, state: g }
+}
+
+// Whether boxes are permutations: a key's, one after a draw, one of zeros, and a key's with each number missing in turn.
+fn permutations() {
+    let k = Rc4::keyed(&COUNTED[..16]);
+    let s = k.state;
+    report::line(b"box of a key, a permutation", told(s), b"");
+    let d = s.draw();
+    report::line(b"after a draw", told(d.state), b"");
+    let refused = Rc4::keyed(b"");
+    report::line(b"box of zeros", told(refused.state), b"");
+    report::line(b"each number missing", 0, &each_missing(s));
+}
+
+// 1 for a permutation, and else 0.
+fn told(state: Rc4) -> u8 {
+    if state.is_permutation() { 1 } else { 0 }
+}
+
+// What is told of the boxes in which one cell holds what the next one does.
+fn each_missing(state: Rc4) -> [u8; 256] {
+    let mut tells = [0xEEu8; 256];
+    let mut n = 0;
+    while n < 256 {
+        tells[n] = told(with_repeated(state, n));
+        n += 1;
+    }
+    tells
+}
+
+// A box in which cell n holds what the next one does.
+fn with_repeated(state: Rc4, n: usize) -> Rc4
+    requires { ⌜ n < 256 ⌝ }
+{
+    let mut cells = state.cells;
+    cells[n] = cells[(n + 1) % 256];
+    Rc4 { cells, i: 0, j: 0 }
 }
 
 // Lent buffers longer than the text, as long, and one octet too short; an empty text.
