@@ -3,8 +3,8 @@ use crate::Numbers;
 use crate::keys::strength;
 use crate::low;
 use crate::tell;
-use ccp::Mode;
 use ccp::Strengths;
+use mppe_keys::Mode;
 use mppe_keys::Strength;
 use mschap_packets::Kind;
 

@@ -13,8 +13,8 @@ use Rattle.octets.specs.Octets.{bigEndian, wordBE, wordsOf, written, writtenIfR
 use Rattle.octets.specs.declared.Order.the-variants.{HighestFirst}
 use Rattle.mppe_keys.specs.declared.Strength.{Strength}
 use Rattle.ccp.specs.declared.Bits.{Bits}
-use Rattle.ccp.specs.declared.Mode.{Mode}
-use Rattle.ccp.specs.declared.Mode.the-variants.{Stateless, Stateful}
+use Rattle.mppe_keys.specs.declared.Mode.{Mode}
+use Rattle.mppe_keys.specs.declared.Mode.the-variants.{Stateless, Stateful}
 use Rattle.ccp.specs.declared.Strengths.{Strengths}
 use Rattle.ccp.specs.declared.Offer.{Offer}
 use Rattle.ccp.specs.declared.Reply.the-variants.{Accept, CounterOffer, Refused}

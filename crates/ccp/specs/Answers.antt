@@ -6,8 +6,8 @@ use lib.Dec.{eqb, ltb}
 use lib.ListN.{length, getD}
 use Rattle.answer.specs.Answer.{done, shape, room, strength, pick, firstOf, onDone, wrong}
 use Rattle.octets.specs.Octets.{written, wordBE}
-use Rattle.ccp.specs.declared.Mode.{Mode}
-use Rattle.ccp.specs.declared.Mode.the-variants.{Stateless}
+use Rattle.mppe_keys.specs.declared.Mode.{Mode}
+use Rattle.mppe_keys.specs.declared.Mode.the-variants.{Stateless}
 use Rattle.ccp.specs.declared.Strengths.{Strengths}
 use Rattle.ccp.specs.declared.Offer.{Offer}
 use Rattle.ccp.specs.declared.Choice.{Choice}

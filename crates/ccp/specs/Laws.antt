@@ -12,8 +12,8 @@ use Rattle.answer.specs.Answer.{done, shape, strength, pick, firstOf, onDone}
 use Rattle.mppe_keys.specs.Keys.{bitsOf}
 use Rattle.mppe_keys.specs.declared.Strength.{Strength}
 use Rattle.mppe_keys.specs.declared.Strength.the-variants.{Bits40, Bits56, Bits128}
-use Rattle.ccp.specs.declared.Mode.{Mode}
-use Rattle.ccp.specs.declared.Mode.the-variants.{Stateless, Stateful}
+use Rattle.mppe_keys.specs.declared.Mode.{Mode}
+use Rattle.mppe_keys.specs.declared.Mode.the-variants.{Stateless, Stateful}
 use Rattle.ccp.specs.declared.Strengths.{Strengths}
 use Rattle.ccp.specs.declared.Offer.{Offer}
 use Rattle.ccp.specs.declared.Choice.{Choice}

@@ -1,4 +1,5 @@
 // The MPPE option of CCP (RFC 3078, section 2): read, written and replied to.
+use mppe_keys::Mode;
 use mppe_keys::Strength;
 use octets::Order;
 ghost use mathlib.Core.Path.{_≡_};
@@ -21,12 +22,6 @@ const BIT_M: u32 = 0x80;
 const BIT_S: u32 = 0x40;
 // Bit L: 40 bits.
 const BIT_L: u32 = 0x20;
-
-// When the session key changes: with each packet, or with each 256th.
-pub enum Mode {
-    Stateless,
-    Stateful,
-}
 
 // Strengths that are offered, or that a policy allows.
 pub struct Strengths {

@@ -1,9 +1,9 @@
 // Prints what the CCP option of this repository reads, writes and replies: K9 to K12 of 01, every request and policy, and refusals.
 use ccp::Choice;
-use ccp::Mode;
 use ccp::Reply;
 use ccp::Strengths;
 use libc::STDOUT_FILENO;
+use mppe_keys::Mode;
 ghost use Prim.Native.Nat.{_<_, _≤_};
 ghost use lib.ListN.{length};
 

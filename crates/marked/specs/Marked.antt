@@ -9,7 +9,7 @@ use Rattle.answer.specs.Answer.{done, strength, late, outside, firstOf}
 use Rattle.answer.specs.Laws.{rows-pass}
 use Rattle.mppe_keys.specs.declared.Strength.the-variants.{Bits40, Bits56, Bits128}
 use Rattle.mppe_keys.specs.Keys.{headOf, reduced}
-use Rattle.ccp.specs.declared.Mode.the-variants.{Stateless}
+use Rattle.mppe_keys.specs.declared.Mode.the-variants.{Stateless}
 use Rattle.ccp.specs.declared.Strengths.{Strengths}
 use Rattle.ccp.specs.declared.Reply.{Reply}
 use Rattle.ccp.specs.declared.Reply.the-variants.{CounterOffer, Refused}

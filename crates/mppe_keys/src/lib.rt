@@ -27,6 +27,12 @@ pub enum Strength {
     Bits128,
 }
 
+// When the session key changes: with each packet, or with each 256th.
+pub enum Mode {
+    Stateless,
+    Stateful,
+}
+
 // Which end of the link asks.
 pub enum Role {
     Client,
