@@ -7,7 +7,6 @@ use lib.ListN.{length, take, drop, replicate}
 use Rattle.answer.specs.Answer.{pick}
 use Rattle.octets.specs.declared.Order.{Order}
 use Rattle.octets.specs.Octets.{octetsOf, wordBE}
-use Rattle.blocks.specs.declared.Tail.{Tail}
 
 -- block n of a message, counted from 0
 abbrev pub block : List ℕ → ℕ → List ℕ
@@ -53,7 +52,6 @@ module _ {S : Type 0} (compress : S → List ℕ → S) where
 abbrev pub ending : Order → List ℕ → ℕ → List ℕ
 ending order m bits = drop (64 * (length m / 64)) m ++ padded order (length m) bits
 
--- the same as a buffer of two blocks, with zeros behind, and how many octets of it they are
-unfoldable pub tailOf : Order → List ℕ → ℕ → Tail
-tailOf order m bits =
-    record { octets = ending order m bits ++ replicate (128 - length (ending order m bits)) 0; len = length (ending order m bits) }
+-- the same as a buffer of two blocks, with zeros behind
+unfoldable pub tailOf : Order → List ℕ → ℕ → List ℕ
+tailOf order m bits = ending order m bits ++ replicate (128 - length (ending order m bits)) 0

@@ -11,9 +11,8 @@ use borrow.Author.Tests.{lt-ltb, le-ltb}
 use Rattle.octets.specs.Octets.{wordBE}
 use Rattle.octets.specs.Words.{_⊞_}
 use Rattle.octets.specs.declared.Order.{Order}
-use Rattle.blocks.specs.declared.Tail.{Tail}
 use Rattle.blocks.specs.Blocks.{schedule, nextWord, rounds, tailOf, block, padding, padded, ending, after, absorbed, hashed}
-use Rattle.blocks.specs.Inner.{closed}
+use Rattle.blocks.specs.Inner.{Tailed, closed}
 
 -- two words are added in either order
 pub add-swap : (a x y : ℕ) → a ⊞ x ⊞ y ≡ a ⊞ y ⊞ x
@@ -135,12 +134,12 @@ module _ {S : Type 0} (f : S → List ℕ → S) where
       (closed-parts order s prior (take k m) (drop k m) h (omega arith) (omega arith))
 
   -- the hash value of a message as code makes it: its whole blocks, and then its last ones
-  pub closed-by : {h r : S} {t : Tail} {bits : ℕ} (order : Order) (s : S) (prior : ℕ) (m : List ℕ) → h ≡ absorbed f s m
-      → t ≡ tailOf order m bits → r ≡ absorbed f h (take (t .len) (t .octets)) → bits ≡ 8 * (prior + length m) → prior % 64 ≡ 0
+  pub closed-by : {h r : S} {last : List ℕ} {n bits : ℕ} (order : Order) (s : S) (prior : ℕ) (m : List ℕ) → h ≡ absorbed f s m
+      → Tailed order m bits n last → r ≡ absorbed f h (take n last) → bits ≡ 8 * (prior + length m) → prior % 64 ≡ 0
       → r ≡ closed f order s prior m
   unfolding tailOf
-  closed-by order s prior m eh et er eb hp =
-      rw (er, eh, et, eb, take-append-seam (ending order m (8 * (prior + length m)))) (closed-is order s prior m hp)
+  closed-by order s prior m eh (en, et) er eb hp =
+      rw (er, eh, en, et, eb, take-append-seam (ending order m (8 * (prior + length m)))) (closed-is order s prior m hp)
 
   -- a message with nothing before it
   pub closed-alone : (order : Order) (s : S) (m : List ℕ) → closed f order s 0 m ≡ hashed f order s m

@@ -4,13 +4,13 @@ use mathlib.Core.List.{List, _∷_, _++_, append-assoc}
 use Prim.Native.Nat.{ℕ, suc, _+_, _*_, _-_, _/_, _%_, _≤_}
 use native.Mathlib.Omega.{arith}
 use lib.ListN.{length, take, drop, set, replicate, length-append, length-drop, length-replicate, replicate-append-replicate}
-use lib.Seq.{length-take-le, take-all, set-append-seam}
+use lib.Seq.{take-all, set-append-seam}
 use Rattle.octets.specs.declared.Order.{Order}
 use Rattle.octets.specs.declared.Order.the-variants.{HighestFirst, LowestFirst}
-use Rattle.octets.specs.Laws.{drop-zeros, append-more}
+use Rattle.octets.specs.Laws.{drop-zeros, append-more, count}
 use Rattle.octets.specs.Octets.{octetsOf, written, writtenAt}
-use Rattle.blocks.specs.declared.Tail.{Tail}
 use Rattle.blocks.specs.Blocks.{tailOf, ending}
+use Rattle.blocks.specs.Inner.{Tailed}
 
 length-field : (order : Order) (x : ℕ) → length (octetsOf order 8 x) ≡ 8
 length-field HighestFirst x = refl
@@ -60,7 +60,7 @@ pub tail-is : {b w d : List ℕ} (order : Order) (m : List ℕ) (bits rest from 
     → b ≡ written (take 128 (take (length m - from) (drop from m))) (replicate 128 0) → w ≡ octetsOf order 8 bits
     → d ≡ writtenAt at (take (length (set b rest 0x80) - at) w) (set b rest 0x80)
     → rest ≡ length m % 64 → from ≡ length m - rest → at ≡ rest + 1 + (119 - rest) % 64 → len ≡ at + 8
-    → _≡_ {A = Tail} (record { octets = d; len = len }) (tailOf order m bits)
+    → Tailed order m bits len d
 unfolding tailOf
 tail-is {b} {w} {d} order m bits rest from at len eb ew ed er ef ea el =
     let r : List ℕ = drop (64 * (length m / 64)) m in
@@ -78,13 +78,13 @@ tail-is {b} {w} {d} order m bits rest from at len eb ew ed er ef ea el =
     let eb′ : b ≡ written (take 128 r) (replicate 128 0) = eb ∙ rw (start, take-all (length m - 64 * (length m / 64)) r (omega arith)) in
     let octets : d ≡ ending order m bits ++ replicate (128 - length (ending order m bits)) 0 =
     put-ending r w z (128 - (length r + 1 + z)) at eb′ (rw er′ at ed) ea′ (whole _ fits) (rw lw (room _ fits)) ∙ rw (zeros, ew) in
-    rw (octets, len′)
+    (len′, octets)
 
 -- they are within their buffer
-pub tail-fits : {t : Tail} (order : Order) (m : List ℕ) (bits : ℕ) → t ≡ tailOf order m bits → t .len ≤ length (t .octets)
+pub tail-fits : {n : ℕ} {last : List ℕ} (order : Order) (m : List ℕ) (bits : ℕ) → Tailed order m bits n last → n ≤ length last
 unfolding tailOf
-tail-fits order m bits e =
-    rw (e, length-append (ending order m bits) (replicate (128 - length (ending order m bits)) 0)) (omega arith)
+tail-fits order m bits (en, e) =
+    rw (en, e, length-append (ending order m bits) (replicate (128 - length (ending order m bits)) 0)) (omega arith)
 
-pub tail-part : {t : Tail} (order : Order) (m : List ℕ) (bits : ℕ) → t ≡ tailOf order m bits → t .len ≡ length (take (t .len) (t .octets))
-tail-part {t} order m bits e = sym (length-take-le (t .len) (t .octets) (tail-fits order m bits e))
+pub tail-part : {n : ℕ} {last : List ℕ} (order : Order) (m : List ℕ) (bits : ℕ) → Tailed order m bits n last → n ≡ length (take n last)
+tail-part {n} {last} order m bits e = count n last (tail-fits order m bits e)

@@ -55,9 +55,8 @@ fn hashed(text: &[u8]) -> State
         d: 0x10325476,
     };
     let s = absorbed(start, text);
-    let tail = blocks::padded_tail(Order::LowestFirst, text, 8 * (text.len() as u64));
-    let last = tail.octets;
-    let n = tail.len;
+    let mut last = [0u8; 128];
+    let n = blocks::padded_tail(Order::LowestFirst, text, 8 * (text.len() as u64), &mut last);
     absorbed(s, &last[..n])
 }
 

@@ -56,9 +56,13 @@ fn hashed(text: &[u8]) -> State
         e: 0xc3d2e1f0,
     };
     let s = absorbed(start, text);
-    let tail = blocks::padded_tail(Order::HighestFirst, text, 8 * (text.len() as u64));
-    let last = tail.octets;
-    let n = tail.len;
+    let mut last = [0u8; 128];
+    let n = blocks::padded_tail(
+        Order::HighestFirst,
+        text,
+        8 * (text.len() as u64),
+        &mut last,
+    );
     absorbed(s, &last[..n])
 }
 

@@ -132,9 +132,8 @@ fn closed(s: State, prior: usize, text: &[u8]) -> State
 {
     let h = absorbed(s, text);
     let octets = prior + text.len();
-    let tail = blocks::padded_tail(Order::HighestFirst, text, 8 * (octets as u64));
-    let last = tail.octets;
-    let n = tail.len;
+    let mut last = [0u8; 128];
+    let n = blocks::padded_tail(Order::HighestFirst, text, 8 * (octets as u64), &mut last);
     absorbed(h, &last[..n])
 }
 

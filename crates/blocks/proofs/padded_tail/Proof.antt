@@ -32,14 +32,11 @@ part-copy-start c = search needs
 part-copy-end : tie.Need-part-copy-end
 part-copy-end c = search needs
 
-slice-aggregate-copy : tie.Need-slice-aggregate-copy
-slice-aggregate-copy c = search needs
-
 copy-requires : tie.Need-copy-requires
 copy-requires c κs = search needs
 
-array-write-buffer : tie.Need-array-write-buffer
-array-write-buffer c = search needs
+element-write-out : tie.Need-element-write-out
+element-write-out c = search needs
 
 long-octets-requires : tie.Need-long-octets-requires
 long-octets-requires c κs = search needs
@@ -47,22 +44,18 @@ long-octets-requires c κs = search needs
 slice-aggregate-copy-at : tie.Need-slice-aggregate-copy-at
 slice-aggregate-copy-at c = search needs
 
-slice-aggregate-copy-at-2 : tie.Need-slice-aggregate-copy-at-2
-slice-aggregate-copy-at-2 c = search needs
-
 copy-at-requires : tie.Need-copy-at-requires
 copy-at-requires c κs = search needs
 
 returns : tie.Need-returns
-returns c = let put = c .before in
-    let counted = put .before .before .before in
-    let copied = counted .before .before in
-    let lent = copied .before .before in
-    let a = lent .before .before .args in
+returns c = let counted = c .before .before .before in
+    let copied = counted .before in
+    let zeros = copied .before .before .before in
+    let a = zeros .before .before .args in
     let m = now (a .m) in
     let rest = length m % 64 in
     let len = rest + 9 + (119 - rest) % 64 in
-    tail-is (a .order) m (a .bits) rest (length m - rest) (len - 8) len (copied .copy .ensures) (counted .long-octets .ensures) (put .copy-at .ensures) refl refl (omega arith) (omega arith)
+    tail-is (a .order) m (a .bits) rest (length m - rest) (len - 8) len (copied .copy .ensures) (counted .long-octets .ensures) (c .copy-at .ensures) refl refl (omega arith) (omega arith)
 
 pub padded-tail-spec : {M : Type 1} → statement M
 padded-tail-spec =
@@ -76,11 +69,9 @@ padded-tail-spec =
     sub-copy
     part-copy-start
     part-copy-end
-    slice-aggregate-copy
     copy-requires
-    array-write-buffer
+    element-write-out
     long-octets-requires
     slice-aggregate-copy-at
-    slice-aggregate-copy-at-2
     copy-at-requires
     returns)
