@@ -1,12 +1,12 @@
 -- The laws of sums, of padding and of a run over blocks, over any compression function.
-use mathlib.Core.Path.{_≡_, refl, subst, _∙_}
-use mathlib.Core.List.{List, _++_, append-assoc}
+use mathlib.Core.Path.{_≡_, refl, sym, subst, _∙_}
+use mathlib.Core.List.{List, [], _∷_, _++_, append-assoc}
 use Prim.Native.Nat.{ℕ, zero, suc, _+_, _*_, _-_, _/_, _%_, _≤_, _<_}
 use native.Mathlib.Nat.{add-zero, zero-add, add-suc, add-assoc}
 use native.Mathlib.Numerals.{add-one}
 use native.Mathlib.Omega.{arith}
-use lib.ListN.{length, take, drop, length-append, length-drop, take-append-drop, set}
-use lib.Seq.{length-take-le, take-append-le, drop-append-le, drop-drop, drop-append-seam, take-append-seam, take-all, take-suc-set}
+use lib.ListN.{length, getD, take, drop, length-append, length-drop, take-append-drop, set}
+use lib.Seq.{length-take-le, take-append-le, drop-append-le, drop-drop, drop-append-seam, take-append-seam, take-all, take-suc-set, getD-take, getD-at}
 use borrow.Author.Tests.{lt-ltb, le-ltb}
 use Rattle.octets.specs.Octets.{wordBE}
 use Rattle.octets.specs.Words.{_⊞_}
@@ -17,6 +17,25 @@ use Rattle.blocks.specs.Inner.{Tailed, closed}
 -- two words are added in either order
 pub add-swap : (a x y : ℕ) → a ⊞ x ⊞ y ≡ a ⊞ y ⊞ x
 add-swap a x y = omega arith
+
+-- a schedule of n words has n, begins with each shorter one, and has each word as it is made from those before it
+pub schedule-length : (next : List ℕ → ℕ → ℕ) (n : ℕ) → length (schedule next n) ≡ n
+unfolding schedule
+schedule-length next zero = refl
+schedule-length next (suc n) = length-append (schedule next n) (next (schedule next n) n ∷ []) ∙ rw (schedule-length next n) (add-one n)
+
+pub schedule-front : (next : List ℕ → ℕ → ℕ) (t n : ℕ) → take t (schedule next (t + n)) ≡ schedule next t
+unfolding schedule
+schedule-front next t zero = rw add-zero (take-all t (schedule next t) (omega (arith, schedule-length next t)))
+schedule-front next t (suc n) =
+    let long = schedule-length next (t + n) in
+    rw (add-suc, take-append-le t (schedule next (t + n)) (next (schedule next (t + n)) (t + n) ∷ []) (omega arith)) (schedule-front next t n)
+
+pub schedule-word : (next : List ℕ → ℕ → ℕ) (t n : ℕ) → getD (schedule next (suc t + n)) t 0 ≡ next (schedule next t) t
+unfolding schedule
+schedule-word next t n =
+    sym (getD-take (suc t) (schedule next (suc t + n)) t 0 (omega arith))
+    ∙ rw (schedule-front next (suc t) n) (getD-at (schedule next t) (next (schedule next t) t) [] 0 t (schedule-length next t))
 
 -- one word more of a schedule
 pub word-more : {x : ℕ} (next : List ℕ → ℕ → ℕ) (w : List ℕ) (t : ℕ) → take t w ≡ schedule next t → x ≡ next (take t w) t → t < length w

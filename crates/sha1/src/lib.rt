@@ -1,12 +1,12 @@
 // SHA-1 (FIPS 180-4) of a lent text.
 ghost use mathlib.Core.Path.{_≡_};
-ghost use Prim.Native.Nat.{_+_, _*_, _<_, _≤_};
+ghost use Prim.Native.Nat.{_*_, _<_, _≤_};
 ghost use lib.ListN.{length};
-ghost use Rattle.blocks.specs.Blocks.{nextWord, schedule as words, rounds, absorbed as afterBlocks, hashed as hashedBy};
+ghost use Rattle.blocks.specs.Blocks.{nextWord, schedule as words, absorbed as afterBlocks, hashed as hashedBy};
 ghost use Rattle.octets.specs.declared.Order.the-variants.{HighestFirst};
-ghost use Rattle.octets.specs.Words.{rotl};
 ghost use Rattle.octets.specs.Octets.{wordBE, longestText};
-ghost use Rattle.sha1.specs.Sha1.{f as choice, k as constant, initial, lateWord, round as roundOf, added as sums, compress as compressed, octetsIn, sha1Answer};
+ghost use Rattle.sha1.specs.Sha1.{f as choice, k as constant, initial, lateWord, added as sums, compress as compressed, octetsIn, sha1Answer};
+ghost use Rattle.sha1.specs.Inner.{ringWord, Rounds};
 use octets::LONGEST_TEXT;
 use octets::Order;
 use octets::add;
@@ -86,27 +86,27 @@ fn compress(h: State, block: &[u8]) -> State
     requires { ⌜ length (now block) ≡ 64 ⌝ }
     ensures { λ r. ⌜ r ≡ compressed h (now (block .entry)) ⌝ }
 {
-    let w = schedule(block);
-    let s1 = twenty(h, &w, 0);
-    let s2 = twenty(s1, &w, 1);
-    let s3 = twenty(s2, &w, 2);
-    let s4 = twenty(s3, &w, 3);
-    added(h, s4)
+    let mut w = words_in(block);
+    let s1 = ten(h, &mut w, 0);
+    let s2 = ten(s1, &mut w, 1);
+    let s3 = ten(s2, &mut w, 2);
+    let s4 = ten(s3, &mut w, 3);
+    let s5 = ten(s4, &mut w, 4);
+    let s6 = ten(s5, &mut w, 5);
+    let s7 = ten(s6, &mut w, 6);
+    let s8 = ten(s7, &mut w, 7);
+    added(h, s8)
 }
 
-// The message schedule of a block.
-fn schedule(block: &[u8]) -> [u32; 80]
+// The sixteen words of a block: the first of its message schedule.
+fn words_in(block: &[u8]) -> [u32; 16]
     requires { ⌜ length (now block) ≡ 64 ⌝ }
-    ensures { λ r. ⌜ r ≡ words (nextWord lateWord (now (block .entry))) 80 ⌝ }
+    ensures { λ r. ⌜ r ≡ words (nextWord lateWord (now (block .entry))) 16 ⌝ }
 {
-    let mut w = [0u32; 80];
+    let mut w = [0u32; 16];
     let mut t = 0;
     while t < 16 {
         w[t] = word_at(block, t);
-        t += 1;
-    }
-    while t < 80 {
-        w[t] = late_word(&w, t);
         t += 1;
     }
     w
@@ -121,41 +121,46 @@ fn word_at(block: &[u8], t: usize) -> u32
     octets::word(block[i], block[i + 1], block[i + 2], block[i + 3])
 }
 
-// Word t of the schedule, from those before it.
-fn late_word(w: &[u32; 80], t: usize) -> u32
-    requires { ⌜ (16 ≤ t) × (t < 80) ⌝ }
-    ensures { λ r. ⌜ r ≡ lateWord (now (w .entry)) t ⌝ }
-{
-    rotl(w[t - 3] ^ w[t - 8] ^ w[t - 14] ^ w[t - 16], 1)
-}
-
-// Twenty rounds, from round 20 * q on.
-fn twenty(s: State, w: &[u32; 80], q: usize) -> State
-    requires { ⌜ q < 4 ⌝ }
-    ensures { λ r. ⌜ r ≡ rounds (roundOf (now (w .entry))) (20 * q) 20 s ⌝ }
+// Ten rounds, from round 10 * q on.
+fn ten(s: State, w: &mut [u32; 16], q: usize) -> State
+    requires { ⌜ q < 8 ⌝ }
+    ensures { λ r. ⌜ Rounds (10 * q) 10 s r (now (w .entry)) (now (w .exit)) ⌝ }
 {
     let mut x = s;
     let mut i = 0;
-    while i < 20 {
-        x = round(x, w, 20 * q + i);
+    while i < 10 {
+        x = round(x, w, 10 * q + i);
         i += 1;
     }
     x
 }
 
-// Round t.
-fn round(s: State, w: &[u32; 80], t: usize) -> State
+// Round t. Its word takes the place of the one sixteen rounds before.
+fn round(s: State, w: &mut [u32; 16], t: usize) -> State
     requires { ⌜ t < 80 ⌝ }
-    ensures { λ r. ⌜ r ≡ roundOf (now (w .entry)) t s ⌝ }
+    ensures { λ r. ⌜ Rounds t 1 s r (now (w .entry)) (now (w .exit)) ⌝ }
 {
+    let word = ring_word(w, t);
+    w[t % 16] = word;
     let mixed = add(add(rotl(s.a, 5), f(t, s.b, s.c, s.d)), s.e);
     State {
-        a: add(add(mixed, k(t)), w[t]),
+        a: add(add(mixed, k(t)), word),
         b: s.a,
         c: rotl(s.b, 30),
         d: s.c,
         e: s.d,
     }
+}
+
+// The word of round t: the block's own, and from round 16 on one made from four of the sixteen before it.
+fn ring_word(w: &[u32; 16], t: usize) -> u32
+    ensures { λ r. ⌜ r ≡ ringWord (now (w .entry)) t ⌝ }
+{
+    if t < 16 {
+        return w[t % 16];
+    }
+    let four = w[(t - 3) % 16] ^ w[(t - 8) % 16] ^ w[(t - 14) % 16] ^ w[t % 16];
+    rotl(four, 1)
 }
 
 // The function of round t.
