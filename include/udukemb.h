@@ -26,17 +26,17 @@
  *
  * Stack: the most octets that a call takes below its caller's frame, with the arguments passed there and without what
  * memcpy and memset take:
- *       udukemb_authenticator_string    1500
+ *       udukemb_authenticator_string    1200
  *       udukemb_base_key                 200
- *       udukemb_binding_key             1700
- *       udukemb_check_authenticator     1500
+ *       udukemb_binding_key             1600
+ *       udukemb_check_authenticator     1200
  *       udukemb_check_response          2800
- *       udukemb_new_link                1200
+ *       udukemb_new_link                 900
  *       udukemb_nt_response             2800
- *       udukemb_open                    3000
+ *       udukemb_open                    2600
  *       udukemb_option_reply             200
- *       udukemb_seal                    2900
- *       udukemb_start_key               1200
+ *       udukemb_seal                    2600
+ *       udukemb_start_key                900
  */
 
 #ifndef UDUKEMB_H
