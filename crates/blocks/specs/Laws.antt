@@ -12,7 +12,7 @@ use Rattle.octets.specs.Octets.{wordBE}
 use Rattle.octets.specs.Words.{_⊞_}
 use Rattle.octets.specs.declared.Order.{Order}
 use Rattle.blocks.specs.Blocks.{schedule, nextWord, rounds, tailOf, block, padding, padded, ending, after, absorbed, hashed}
-use Rattle.blocks.specs.Inner.{Tailed, closed}
+use Rattle.blocks.specs.Inner.{HoldsTail, closed}
 
 -- two words are added in either order
 pub add-swap : (a x y : ℕ) → a ⊞ x ⊞ y ≡ a ⊞ y ⊞ x
@@ -154,7 +154,7 @@ module _ {S : Type 0} (f : S → List ℕ → S) where
 
   -- the hash value of a message as code makes it: its whole blocks, and then its last ones
   pub closed-by : {h r : S} {last : List ℕ} {n bits : ℕ} (order : Order) (s : S) (prior : ℕ) (m : List ℕ) → h ≡ absorbed f s m
-      → Tailed order m bits n last → r ≡ absorbed f h (take n last) → bits ≡ 8 * (prior + length m) → prior % 64 ≡ 0
+      → HoldsTail order m bits n last → r ≡ absorbed f h (take n last) → bits ≡ 8 * (prior + length m) → prior % 64 ≡ 0
       → r ≡ closed f order s prior m
   unfolding tailOf
   closed-by order s prior m eh (en, et) er eb hp =

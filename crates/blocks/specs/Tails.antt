@@ -10,7 +10,7 @@ use Rattle.octets.specs.declared.Order.the-variants.{HighestFirst, LowestFirst}
 use Rattle.octets.specs.Laws.{drop-zeros, append-more, count}
 use Rattle.octets.specs.Octets.{octetsOf, written, writtenAt}
 use Rattle.blocks.specs.Blocks.{tailOf, ending}
-use Rattle.blocks.specs.Inner.{Tailed}
+use Rattle.blocks.specs.Inner.{HoldsTail}
 
 length-field : (order : Order) (x : ℕ) → length (octetsOf order 8 x) ≡ 8
 length-field HighestFirst x = refl
@@ -60,7 +60,7 @@ pub tail-is : {b w d : List ℕ} (order : Order) (m : List ℕ) (bits rest from 
     → b ≡ written (take 128 (take (length m - from) (drop from m))) (replicate 128 0) → w ≡ octetsOf order 8 bits
     → d ≡ writtenAt at (take (length (set b rest 0x80) - at) w) (set b rest 0x80)
     → rest ≡ length m % 64 → from ≡ length m - rest → at ≡ rest + 1 + (119 - rest) % 64 → len ≡ at + 8
-    → Tailed order m bits len d
+    → HoldsTail order m bits len d
 unfolding tailOf
 tail-is {b} {w} {d} order m bits rest from at len eb ew ed er ef ea el =
     let r : List ℕ = drop (64 * (length m / 64)) m in
@@ -81,10 +81,10 @@ tail-is {b} {w} {d} order m bits rest from at len eb ew ed er ef ea el =
     (len′, octets)
 
 -- they are within their buffer
-pub tail-fits : {n : ℕ} {last : List ℕ} (order : Order) (m : List ℕ) (bits : ℕ) → Tailed order m bits n last → n ≤ length last
+pub tail-fits : {n : ℕ} {last : List ℕ} (order : Order) (m : List ℕ) (bits : ℕ) → HoldsTail order m bits n last → n ≤ length last
 unfolding tailOf
 tail-fits order m bits (en, e) =
     rw (en, e, length-append (ending order m bits) (replicate (128 - length (ending order m bits)) 0)) (omega arith)
 
-pub tail-part : {n : ℕ} {last : List ℕ} (order : Order) (m : List ℕ) (bits : ℕ) → Tailed order m bits n last → n ≡ length (take n last)
+pub tail-part : {n : ℕ} {last : List ℕ} (order : Order) (m : List ℕ) (bits : ℕ) → HoldsTail order m bits n last → n ≡ length (take n last)
 tail-part {n} {last} order m bits e = count n last (tail-fits order m bits e)

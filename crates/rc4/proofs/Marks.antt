@@ -1,7 +1,7 @@
 -- Whether a box is a permutation: a mark for each number that stands in it, and all marks together.
 use mathlib.Core.Path.{_≡_, refl, sym, _∙_}
 use mathlib.Core.Bool.{Bool, true, false, _&&_, _||_}
-use mathlib.Core.List.{List, [], _∷_, _++_}
+use mathlib.Core.List.{List, [], _∷_, _++_, perm-append-singleton}
 use Prim.Native.Nat.{ℕ, _+_, _<_}
 use native.Mathlib.Numerals.{add-one}
 use native.Mathlib.Omega.{arith}
@@ -12,6 +12,7 @@ use lib.Seq.{take-all, take-suc, getD-set-same, getD-set-other}
 use borrow.Author.Tests.{eq-eqb, eqb-true, eqb-false}
 use Rattle.rc4.specs.Cipher.{among, allAmong, permutation}
 use Rattle.rc4.specs.Inner.{mark, Marked, Tells}
+use Rattle.rc4.specs.Permutation.{among-same}
 
 -- no cell is looked at
 pub marks-none : Marked [] (replicate 256 0)
@@ -21,13 +22,7 @@ marks-none = (refl, λ n h. getD-replicate 256 n 0 0 h)
 -- one cell more
 among-more : (n : ℕ) (xs : List ℕ) (y : ℕ) → among n (xs ++ y ∷ []) ≡ eqb y n || among n xs
 unfolding among
-among-more n [] y = refl
-among-more n (x ∷ xs) y = rw (among-more n xs y) (exchange (eqb x n) (eqb y n) (among n xs))
-  where
-    exchange : (a b c : Bool) → a || (b || c) ≡ b || (a || c)
-    exchange true true c = refl
-    exchange true false c = refl
-    exchange false b c = refl
+among-more n xs y = among-same n (perm-append-singleton y xs)
 
 pub marks-more : {x : ℕ} (cells marks : List ℕ) (i : ℕ) → x ≡ getD cells i 0 → x < 256 → i < length cells → Marked (take i cells) marks
     → Marked (take (i + 1) cells) (set marks x 1)

@@ -48,7 +48,7 @@ perm-among n (List·Permᴰ·swap {a} {b} {a′} {b′} {l} e₁ e₂) = rw (e�
     exchange false y z = refl
 perm-among n (List·Permᴰ·trans d₁ d₂) = perm-among n d₁ ∙ perm-among n d₂
 
-among-same : (n : ℕ) {a b : List ℕ} → Perm a b → among n a ≡ among n b
+pub among-same : (n : ℕ) {a b : List ℕ} → Perm a b → among n a ≡ among n b
 among-same n {a} {b} perm = ∥∥₁-elim perm (Bool-set (among n a) (among n b)) (perm-among n)
 
 all-same : (n : ℕ) {a b : List ℕ} → Perm a b → allAmong n a ≡ allAmong n b
