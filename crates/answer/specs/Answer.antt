@@ -40,6 +40,10 @@ domain = 9
 abbrev pub late : ℕ
 late = 10
 
+-- "otherwise answer 11, waiting" (02, M-103)
+abbrev pub waiting : ℕ
+waiting = 11
+
 -- the first where the test holds, else the second
 abbrev pub pick : {A : Type 0} → Bool → A → A → A
 pick true a b = a

@@ -69,14 +69,14 @@ abbrev pub numbered : ℕ → List (ℕ × Bool) → Bool
 numbered n [] = false
 numbered n (row ∷ rows) = pick (eqb (row .0) n) true (numbered n rows)
 
+none-behind : (t rest : Bool) → pick t true rest ≡ false → rest ≡ false
+none-behind true rest none = absurd (true≢false none)
+none-behind false rest none = none
+
 pub never : (n : ℕ) (rows : List (ℕ × Bool)) → onDone n false true ≡ true → numbered n rows ≡ false → firstOf rows ≡ n → ⊥
 never n [] some none e = false≢true (rw (← e) at some)
 never n ((m, true) ∷ rows) some none e = true≢false (rw (eq-eqb m n e) at none)
-never n ((m, false) ∷ rows) some none e = never n rows some (go (eqb m n) none) e
-  where
-    go : (t : Bool) → pick t true (numbered n rows) ≡ false → numbered n rows ≡ false
-    go true none = absurd (true≢false none)
-    go false none = none
+never n ((m, false) ∷ rows) some none e = never n rows some (none-behind (eqb m n) (numbered n rows) none) e
 
 -- rows of which none applies leave it to those behind them; where one applies, those behind do not matter
 pub rows-pass : (rows rest : List (ℕ × Bool)) → refusals rows ≡ true → firstOf rows ≡ done → firstOf (rows ++ rest) ≡ firstOf rest
@@ -89,6 +89,12 @@ pub rows-stop : (rows rest : List (ℕ × Bool)) → (firstOf rows ≡ done → 
 rows-stop [] rest e = absurd (e refl)
 rows-stop ((n, true) ∷ rows) rest e = refl
 rows-stop ((n, false) ∷ rows) rest e = rows-stop rows rest e
+
+-- where a number is answered that no row in front has, none of these applies
+pub rows-passed : (n : ℕ) (rows rest : List (ℕ × Bool)) → numbered n rows ≡ false → firstOf (rows ++ rest) ≡ n → firstOf rows ≡ done
+rows-passed n [] rest none e = refl
+rows-passed n ((m, true) ∷ rows) rest none e = absurd (true≢false (rw (eq-eqb m n e) at none))
+rows-passed n ((m, false) ∷ rows) rest none e = rows-passed n rows rest (none-behind (eqb m n) (numbered n rows) none) e
 
 -- a number that is not 0 leaves what a refusal has
 pub not-done : {A : Type 0} (code : ℕ) (result refused : A) → (code ≡ done → ⊥) → onDone code result refused ≡ refused

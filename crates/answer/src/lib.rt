@@ -22,3 +22,5 @@ pub const STRENGTH: u8 = 8;
 pub const DOMAIN: u8 = 9;
 // The count is farther ahead of the last one than is opened: that of a packet that comes late (02, M-101).
 pub const LATE: u8 = 10;
+// A stateful receiver waits for a packet with bit A: it has no box for this one (02, M-103).
+pub const WAITING: u8 = 11;

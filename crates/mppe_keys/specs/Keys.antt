@@ -9,6 +9,8 @@ use Rattle.sha1.specs.Sha1.{sha1}
 use Rattle.rc4.specs.Cipher.{keySchedule, run}
 use Rattle.mppe_keys.specs.declared.Strength.{Strength}
 use Rattle.mppe_keys.specs.declared.Strength.the-variants.{Bits40, Bits56, Bits128}
+use Rattle.mppe_keys.specs.declared.Mode.{Mode}
+use Rattle.mppe_keys.specs.declared.Mode.the-variants.{Stateless, Stateful}
 use Rattle.mppe_keys.specs.declared.Role.{Role}
 use Rattle.mppe_keys.specs.declared.Role.the-variants.{Client, Server}
 use Rattle.mppe_keys.specs.declared.Direction.{Direction}
@@ -25,6 +27,15 @@ abbrev pub keyLength : Strength → ℕ
 keyLength Bits40 = 8
 keyLength Bits56 = 8
 keyLength Bits128 = 16
+
+-- the first where a link is stateless, the second where it is stateful
+abbrev pub byMode : {A : Type 0} → Mode → A → A → A
+byMode Stateless a b = a
+byMode Stateful a b = b
+
+-- the mode that is stateful, or the other
+abbrev pub modeIf : (stateful : Bool) → Mode
+modeIf stateful = pick stateful Stateful Stateless
 
 -- Magic1: "This is the MPPE Master Key"
 unfoldable pub magic1 : List ℕ

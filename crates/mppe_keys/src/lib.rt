@@ -1,11 +1,12 @@
 // MPPE's keys (RFC 3079, section 3; RFC 3078, section 7.3).
 ghost use mathlib.Core.Path.{_≡_};
+ghost use mathlib.Core.Bool.{true, false};
 ghost use mathlib.Core.List.{_++_};
 ghost use Prim.Native.Nat.{_+_, _-_, _≤_};
 ghost use lib.ListN.{length, take, drop, replicate};
 ghost use Rattle.octets.specs.Octets.{written, longestText};
 ghost use Rattle.sha1.specs.Sha1.{sha1 as digestOf};
-ghost use Rattle.mppe_keys.specs.Keys.{keyLength, magic1, fromClient, phrase, keyText, headOf, begins, reduced, rc4, changes, placed as placedKey};
+ghost use Rattle.mppe_keys.specs.Keys.{keyLength, byMode, modeIf, magic1, fromClient, phrase, keyText, headOf, begins, reduced, rc4, changes, placed as placedKey};
 ghost use Rattle.mppe_keys.specs.Answers.{masterKeyAnswer, startKeyAnswer, newKeyAnswer, initialKeyAnswer, reduceAnswer, keyChangeAnswer, keyChangesAnswer, placedChanges, placedCipher};
 ghost use Rattle.mppe_keys.specs.Inner.{refusedKey, Changed};
 use octets::copy;
@@ -60,6 +61,26 @@ pub fn key_length(strength: Strength) -> usize
         Strength::Bits56 => 8,
         Strength::Bits128 => 16,
     }
+}
+
+// Whether a mode is stateful.
+pub fn is_stateful(mode: Mode) -> bool
+    ensures { λ r. ⌜ r ≡ byMode mode false true ⌝ }
+{
+    match mode {
+        Mode::Stateless => false,
+        Mode::Stateful => true,
+    }
+}
+
+// The mode that is stateful, or the other.
+pub fn mode_if(stateful: bool) -> Mode
+    ensures { λ r. ⌜ r ≡ modeIf stateful ⌝ }
+{
+    if stateful {
+        return Mode::Stateful;
+    }
+    Mode::Stateless
 }
 
 // The master key of a password's hash-hash, 16 octets, and an NT-Response.

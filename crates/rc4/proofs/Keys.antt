@@ -37,6 +37,9 @@ unfolding below
 below-octets zero h k = omega arith
 below-octets (suc n) h k = snoc-octets (below n) n h (below-octets n (omega arith)) k
 
+pub below-cells : {cells : List ℕ} → cells ≡ below 256 → OctetCells cells
+below-cells e = rw e (record { long = below-length 256; octets = below-octets 256 (omega arith) })
+
 -- the box, j and the place in the key after the first i rounds, j not wrapped mod 256
 pub record Mixed (key cells : List ℕ) (place j i : ℕ) : Type 0 where
   pub inside : place < length key
@@ -53,7 +56,7 @@ mixed-none key {cells} e h = record {
   inside = h;
   place-is = sym (zero-mod _);
   near = omega arith;
-  whole = rw e (record { long = below-length 256; octets = below-octets 256 (omega arith) });
+  whole = below-cells e;
   cells-are = e;
   j-is = refl;
 }

@@ -1,16 +1,17 @@
 -- Whether a box is a permutation: a mark for each number that stands in it, and all marks together.
 use mathlib.Core.Path.{_≡_, refl, sym, _∙_}
-use mathlib.Core.Bool.{Bool, true, false, _&&_, _||_}
+use mathlib.Core.Bool.{Bool, true, false, _&&_, _||_, and-true}
 use mathlib.Core.List.{List, [], _∷_, _++_, perm-append-singleton}
-use Prim.Native.Nat.{ℕ, _+_, _<_}
+use Prim.Native.Nat.{ℕ, _+_, _%_, _<_}
 use native.Mathlib.Numerals.{add-one}
 use native.Mathlib.Omega.{arith}
 use lib.Bits.{bitAnd}
 use lib.Dec.{eqb}
-use lib.ListN.{length, length-set, take, set, getD, getD-replicate, replicate}
-use lib.Seq.{take-all, take-suc, getD-set-same, getD-set-other}
-use borrow.Author.Tests.{eq-eqb, eqb-true, eqb-false}
-use Rattle.rc4.specs.Cipher.{among, allAmong, permutation}
+use lib.ListN.{length, length-set, take, drop, set, getD, getD-replicate, replicate}
+use lib.Seq.{take-all, take-suc, drop-cons, drop-length, getD-set-same, getD-set-other}
+use borrow.Author.Tests.{eq-eqb, ne-eqb, eqb-true, eqb-false}
+use Rattle.rc4.specs.declared.Rc4.{Rc4}
+use Rattle.rc4.specs.Cipher.{among, allAmong, permutation, inOrder, isUnkeyed}
 use Rattle.rc4.specs.Inner.{mark, Marked, Tells}
 use Rattle.rc4.specs.Permutation.{among-same}
 
@@ -63,3 +64,43 @@ joined-tells false e = rw e
 pub permutation-told : {all : Bool} (cells marks : List ℕ) → length cells ≡ 256 → Marked cells marks → Tells marks all → all ≡ permutation cells
 unfolding permutation
 permutation-told cells marks long m tells = tells cells m ∙ rw (eq-eqb (length cells) 256 long)
+
+-- cells looked at in order: what is found so far, and what is left
+pub order-more : {v : ℕ} {more : Bool} (found : Bool) (cells : List ℕ) (n : ℕ) → v ≡ n % 256 → n < 256 → length cells ≡ 256 → more ≡ eqb (getD cells n 0) v && found
+    → found && inOrder n (drop n cells) ≡ inOrder 0 cells → more && inOrder (n + 1) (drop (n + 1) cells) ≡ inOrder 0 cells
+unfolding inOrder
+order-more {v} found cells n ev h long em e =
+    let same : v ≡ n = omega arith in
+    let one : inOrder n (drop n cells) ≡ eqb (getD cells n 0) n && inOrder (n + 1) (drop (n + 1) cells) = rw (drop-cons cells n 0 (omega arith), add-one n) in
+    rw (em, same) (by (eqb (getD cells n 0) n) found (inOrder (n + 1) (drop (n + 1) cells)) ∙ (rw one at e))
+  where
+    by : (a b c : Bool) → (a && b) && c ≡ b && (a && c)
+    by true b c = refl
+    by false true c = refl
+    by false false c = refl
+
+pub order-all : (found : Bool) (cells : List ℕ) → length cells ≡ 256 → found && inOrder 256 (drop 256 cells) ≡ inOrder 0 cells → found ≡ inOrder 0 cells
+unfolding inOrder
+order-all found cells long e =
+    let none : drop 256 cells ≡ [] = rw (← long) (drop-length cells) in
+    sym (and-true found) ∙ (rw none at e)
+
+-- both indices, and then the cells
+pub unkeyed-told : {found : Bool} (s : Rc4) → s .i ≡ 0 → s .j ≡ 0 → found ≡ inOrder 0 (s .cells) → found ≡ isUnkeyed s
+unfolding isUnkeyed
+unkeyed-told s ei ej e = rw (eq-eqb (s .i) 0 ei, eq-eqb (s .j) 0 ej) e
+
+pub i-drawn : (s : Rc4) → (s .i ≡ 0 → ⊥) → false ≡ isUnkeyed s
+unfolding isUnkeyed
+i-drawn s h = rw (ne-eqb (s .i) 0 h)
+
+pub j-drawn : (s : Rc4) → s .i ≡ 0 → (s .j ≡ 0 → ⊥) → false ≡ isUnkeyed s
+unfolding isUnkeyed
+j-drawn s ei h = rw (eq-eqb (s .i) 0 ei, ne-eqb (s .j) 0 h)
+
+-- two octets more
+pub still-same : (found : Bool) (a b : ℕ) → a ≡ b → found ≡ eqb a b && found
+still-same found a b e = rw (eq-eqb a b e)
+
+pub still-other : (found : Bool) (a b : ℕ) → (a ≡ b → ⊥) → false ≡ eqb a b && found
+still-other found a b h = rw (ne-eqb a b h)

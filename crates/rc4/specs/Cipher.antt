@@ -76,3 +76,16 @@ allAmong (suc n) cells = allAmong n cells && among n cells
 -- "the box a permutation" (02, M-103): 256 cells, and every number from 0 to 255 stands in one of them
 unfoldable pub permutation : List ℕ → Bool
 permutation cells = eqb (length cells) 256 && allAmong 256 cells
+
+-- "0 to 255 in order, indices 0": the state that a key schedule starts from
+abbrev pub unkeyed : Rc4
+unkeyed = box (below 256) 0 0
+
+-- cells that are the numbers from n to 255, in order
+unfoldable pub inOrder : ℕ → List ℕ → Bool
+inOrder n [] = eqb n 256
+inOrder n (x ∷ xs) = eqb x n && inOrder (n + 1) xs
+
+-- whether a state is that one
+unfoldable pub isUnkeyed : Rc4 → Bool
+isUnkeyed s = eqb (s .i) 0 && eqb (s .j) 0 && inOrder 0 (s .cells)

@@ -32,6 +32,14 @@ unfolding after
 after-cut s [] rest = refl
 after-cut s (x ∷ xs) rest = after-cut (step s) xs rest
 
+-- draws go by the length of a text alone
+pub after-length : (s : Rc4) (a b : List ℕ) → length a ≡ length b → after s a ≡ after s b
+unfolding after
+after-length s [] [] e = refl
+after-length s [] (y ∷ b) e = absurd (omega arith)
+after-length s (x ∷ a) [] e = absurd (omega arith)
+after-length s (x ∷ a) (y ∷ b) e = after-length (step s) a b (omega arith)
+
 -- a digit, and a number, xored twice with another is itself
 digit-twice : (x y : ℕ) → x < 2 → y < 2 → differ (bitXor x y) y ≡ x
 digit-twice zero zero hx hy = refl

@@ -1,9 +1,9 @@
 -- Laws of the box: a key gives a permutation of 0 to 255, and draws leave one.
 use mathlib.Core.Path.{_≡_, refl, sym, ap, _∙_}
-use mathlib.Core.Bool.{Bool, true, false, _||_, Bool-set, false≢true}
+use mathlib.Core.Bool.{Bool, true, false, _&&_, _||_, Bool-set, false≢true}
 use mathlib.Core.Logic.{∥∥₁-elim}
-use mathlib.Core.List.{List, [], _∷_, _++_, Perm, Perm·rfl, Perm·cons, Perm·swap, Perm·trans, Perm·symm, perm-append-singleton, List·Permᴰ, List·Permᴰ·nil, List·Permᴰ·cons, List·Permᴰ·swap, List·Permᴰ·trans}
-use Prim.Native.Nat.{ℕ, zero, suc, _+_, _%_, _<_, _≤_}
+use mathlib.Core.List.{List, [], _∷_, _++_, Perm, Perm·rfl, Perm·cons, Perm·swap, Perm·trans, Perm·symm, perm-append-singleton, append-assoc, append-nil, List·Permᴰ, List·Permᴰ·nil, List·Permᴰ·cons, List·Permᴰ·swap, List·Permᴰ·trans}
+use Prim.Native.Nat.{ℕ, zero, suc, _+_, _<_, _≤_}
 use native.Mathlib.Numerals.{add-one}
 use native.Mathlib.Omega.{arith}
 use lib.Dec.{eqb}
@@ -12,7 +12,7 @@ use borrow.Author.Tests.{eq-eqb, ne-eqb, eqb-true}
 use Rattle.answer.specs.Answer.{pick}
 use Rattle.answer.specs.Laws.{both}
 use Rattle.rc4.specs.declared.Rc4.{Rc4}
-use Rattle.rc4.specs.Cipher.{below, among, allAmong, permutation, swap, roundJ, round, rounds, keySchedule, nextI, nextJ, step, after}
+use Rattle.rc4.specs.Cipher.{below, among, allAmong, permutation, unkeyed, inOrder, isUnkeyed, swap, roundJ, round, rounds, keySchedule, nextI, nextJ, step, after}
 
 -- there are n numbers below n
 pub below-length : (n : ℕ) → length (below n) ≡ n
@@ -129,7 +129,51 @@ unfolding after
 after-whole s [] w = w
 after-whole s (x ∷ xs) w = after-whole (step s) xs (step-whole s w)
 
--- from a key, the box is a permutation of 0 to 255 after every draw, and before the first
-pub keyed-permutation : (key text : List ℕ) → Perm (after (keySchedule key) text .cells) (below 256)
+-- from a key, the box is a permutation of 0 to 255 before the first draw, and after every one
+pub keyed-whole : (key : List ℕ) → Whole (keySchedule key .cells)
 unfolding keySchedule
-keyed-permutation key text = after-whole (keySchedule key) text (rounds-whole key 256 (omega arith)) .1
+keyed-whole key = rounds-whole key 256 (omega arith)
+
+pub keyed-permutation : (key text : List ℕ) → Perm (after (keySchedule key) text .cells) (below 256)
+keyed-permutation key text = after-whole (keySchedule key) text (keyed-whole key) .1
+
+-- what the fields of the code's struct hold: 256 cells, and indices that are octets; a key gives them, and draws keep them
+abbrev pub Sized : Rc4 → Type 0
+Sized s = (length (s .cells) ≡ 256) × (s .i < 256) × (s .j < 256)
+
+pub keyed-sized : (key : List ℕ) → Sized (keySchedule key)
+keyed-sized key = (keyed-whole key .0, unfold keySchedule in omega arith, unfold keySchedule in omega arith)
+
+step-sized : (s : Rc4) → Sized s → Sized (step s)
+unfolding step nextI nextJ
+step-sized s (long, hi, hj) = (simp length-set long, omega arith, omega arith)
+
+pub after-sized : (s : Rc4) (text : List ℕ) → Sized s → Sized (after s text)
+unfolding after
+after-sized s [] h = h
+after-sized s (x ∷ xs) h = after-sized (step s) xs (step-sized s h)
+
+-- cells in order behind those below n are the numbers below 256
+order-is : (n : ℕ) (cells : List ℕ) → inOrder n cells ≡ true → below n ++ cells ≡ below 256
+unfolding inOrder below
+order-is n [] h = append-nil (below n) ∙ ap below (eqb-true n 256 h)
+order-is n (x ∷ xs) h =
+    let (here, rest) = both (eqb x n) (inOrder (n + 1) xs) h in
+    let front : below (n + 1) ≡ below n ++ (n ∷ []) = rw (add-one n) in
+    rw (eqb-true x n here, ← append-assoc (below n) (n ∷ []) xs, ← front) (order-is (n + 1) xs rest)
+
+-- the state that a key schedule starts from is found to be it, and no other is
+pub unkeyed-is : (s : Rc4) → isUnkeyed s ≡ true → s ≡ unkeyed
+unfolding isUnkeyed below
+unkeyed-is s h =
+    let (indices, order) = both (eqb (s .i) 0 && eqb (s .j) 0) (inOrder 0 (s .cells)) h in
+    let (i0, j0) = both (eqb (s .i) 0) (eqb (s .j) 0) indices in
+    let cells : s .cells ≡ below 256 = order-is 0 (s .cells) order in
+    rw (eqb-true (s .i) 0 i0, eqb-true (s .j) 0 j0, cells)
+
+pub unkeyed-found : isUnkeyed unkeyed ≡ true
+unkeyed-found = unfold isUnkeyed inOrder below in refl
+
+-- its box is a permutation
+pub unkeyed-permutation : (s : Rc4) → isUnkeyed s ≡ true → permutation (s .cells) ≡ true
+unkeyed-permutation s h = rw (unkeyed-is s h) (whole-permutation (below 256) (below-length 256, Perm·rfl))

@@ -1,9 +1,12 @@
 // RC4: the key schedule, a draw, a run over a text, and a generator lent by reference (01, "Digests, DES and RC4").
 ghost use mathlib.Core.Path.{_≡_};
+ghost use mathlib.Core.Bool.{_&&_};
+ghost use mathlib.Core.List.{[], _∷_};
 ghost use Prim.Native.Nat.{_+_, _%_, _^_, _<_, _≤_};
+ghost use lib.Dec.{eqb};
 ghost use lib.ListN.{length, getD, replicate};
 ghost use Rattle.octets.specs.Octets.{written, longestText};
-ghost use Rattle.rc4.specs.Cipher.{below, permutation, swap, rounds, step, drawn, run, after};
+ghost use Rattle.rc4.specs.Cipher.{below, permutation, unkeyed, inOrder, isUnkeyed, swap, rounds, step, drawn, run, after};
 ghost use Rattle.rc4.specs.Answers.{keyedAnswer, drawAnswer, runAnswer, runOut, applyCode, applyOut};
 ghost use Rattle.rc4.specs.Inner.{wrapped, firstCell, xors, OctetCells, Ready, Finished, Marked, Tells};
 
@@ -84,6 +87,19 @@ impl Rc4 {
         }
     }
 
+    // The next two octets, with no draw.
+    pub fn next_two(self) -> [u8; 2]
+        ensures { λ r. ⌜ r ≡ drawn self ∷ drawn (step self) ∷ [] ⌝ }
+    {
+        let cells = self.cells;
+        let mut words = widen(cells);
+        let i = index(self.i);
+        let x = first_cell(&words, i);
+        let first = advance(&mut words, i, word(self.j), x);
+        let second = advance(&mut words, i + 1, first.j, first.x);
+        [first.octet, second.octet]
+    }
+
     // A text of up to 65,535 octets, xored with the draws, into the front of a lent buffer.
     pub fn run(self, text: &[u8], out: &mut [u8]) -> Ran
         ensures { λ r. ⌜ (r ≡ runAnswer self (now (text .entry)) (now (out .entry)))
@@ -114,6 +130,31 @@ impl Rc4 {
     {
         let cells = self.cells;
         all_marked(marked(cells))
+    }
+
+    // The state that a key schedule starts from: 0 to 255 in order, both indices 0.
+    pub fn unkeyed() -> Rc4
+        ensures { λ r. ⌜ r ≡ unkeyed ⌝ }
+    {
+        Rc4 {
+            cells: narrow(ascending()),
+            i: 0,
+            j: 0,
+        }
+    }
+
+    // Whether it is that state.
+    pub fn is_unkeyed(self) -> bool
+        ensures { λ r. ⌜ r ≡ isUnkeyed self ⌝ }
+    {
+        if self.i != 0 {
+            return false;
+        }
+        if self.j != 0 {
+            return false;
+        }
+        let cells = self.cells;
+        in_order(cells)
     }
 }
 
@@ -495,4 +536,27 @@ fn all_marked(marks: [u8; 256]) -> bool
         n += 1;
     }
     all == 1
+}
+
+// Whether the cells are the numbers 0 to 255, in order.
+fn in_order(cells: [u8; 256]) -> bool
+    ensures { λ r. ⌜ r ≡ inOrder 0 cells ⌝ }
+{
+    let mut same = true;
+    let mut n = 0;
+    while n < 256 {
+        same = still(same, cells[n], octet(n));
+        n += 1;
+    }
+    same
+}
+
+// What is found of all before, and of two octets that are to be the same.
+fn still(found: bool, a: u8, b: u8) -> bool
+    ensures { λ r. ⌜ r ≡ eqb a b && found ⌝ }
+{
+    if a != b {
+        return false;
+    }
+    found
 }
