@@ -12,6 +12,8 @@ ghost use Rattle.mppe.specs.Link.{longestPlain, farthest, sealResult, openResul
 ghost use Rattle.bench.specs.Copied.{copied, strengthOf, linkAt};
 use mppe::Link;
 use mppe_keys::Strength;
+use mppe_keys::mode_if;
+use rc4::Rc4;
 
 // MD4 of a text.
 #[no_mangle]
@@ -98,18 +100,19 @@ pub extern "C" fn bench_key_changes(start: &[u8], session: &[u8], n: usize, out:
 #[no_mangle]
 pub extern "C" fn bench_seal(
     bits40: bool,
+    stateful: bool,
     start: &[u8],
     session: &[u8],
     count: u16,
     plain: &[u8],
     out: &mut [u8],
 ) -> u8
-    ensures { λ r. ⌜ (r ≡ sealResult longestPlain (linkAt bits40 (now (start .entry)) (now (session .entry)) count)
+    ensures { λ r. ⌜ (r ≡ sealResult longestPlain (linkAt bits40 stateful (now (start .entry)) (now (session .entry)) count)
         (now (plain .entry)) (now (out .entry)) .outcome .answer)
-        × (now (out .exit) ≡ sealResult longestPlain (linkAt bits40 (now (start .entry)) (now (session .entry)) count)
+        × (now (out .exit) ≡ sealResult longestPlain (linkAt bits40 stateful (now (start .entry)) (now (session .entry)) count)
         (now (plain .entry)) (now (out .entry)) .buffer) ⌝ }
 {
-    let link = link_at(bits40, start, session, count);
+    let link = link_at(bits40, stateful, start, session, count);
     let made = link.seal(plain, out);
     made.answer
 }
@@ -118,36 +121,41 @@ pub extern "C" fn bench_seal(
 #[no_mangle]
 pub extern "C" fn bench_open(
     bits40: bool,
+    stateful: bool,
     start: &[u8],
     session: &[u8],
     count: u16,
     packet: &[u8],
     out: &mut [u8],
 ) -> u8
-    ensures { λ r. ⌜ (r ≡ openResult longestPlain farthest (linkAt bits40 (now (start .entry)) (now (session .entry)) count)
+    ensures { λ r. ⌜ (r ≡ openResult longestPlain farthest (linkAt bits40 stateful (now (start .entry)) (now (session .entry)) count)
         (now (packet .entry)) (now (out .entry)) .outcome .answer)
-        × (now (out .exit) ≡ openResult longestPlain farthest (linkAt bits40 (now (start .entry)) (now (session .entry)) count)
+        × (now (out .exit) ≡ openResult longestPlain farthest (linkAt bits40 stateful (now (start .entry)) (now (session .entry)) count)
         (now (packet .entry)) (now (out .entry)) .buffer) ⌝ }
 {
-    let link = link_at(bits40, start, session, count);
+    let link = link_at(bits40, stateful, start, session, count);
     let made = link.open(packet, out);
     made.answer
 }
 
-// A link record of its parts, each key cut to 16 places or with zeros behind it.
-fn link_at(bits40: bool, start: &[u8], session: &[u8], count: u16) -> Link
-    ensures { λ r. ⌜ r ≡ linkAt bits40 (now (start .entry)) (now (session .entry)) count ⌝ }
+// A link record of its parts, each key cut to 16 places or with zeros behind it; its box is 0 to 255 in order, and it does not wait.
+fn link_at(bits40: bool, stateful: bool, start: &[u8], session: &[u8], count: u16) -> Link
+    ensures { λ r. ⌜ r ≡ linkAt bits40 stateful (now (start .entry)) (now (session .entry)) count ⌝ }
 {
     let strength = strength_of(bits40);
+    let mode = mode_if(stateful);
     let mut first = [0u8; 16];
     let mut second = [0u8; 16];
     octets::copy(start, &mut first);
     octets::copy(session, &mut second);
     Link {
         strength,
+        mode,
         start: first,
         session: second,
         count,
+        state: Rc4::unkeyed(),
+        waiting: false,
     }
 }
 

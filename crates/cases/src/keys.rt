@@ -37,7 +37,7 @@ pub fn strength(n: usize) -> Strength {
 }
 
 // The 16 places of a key, from an input of at most as many octets.
-pub fn places(a: &[u8]) -> [u8; 16] {
+fn places(a: &[u8]) -> [u8; 16] {
     let mut key = [0u8; 16];
     octets::copy(a, &mut key);
     key

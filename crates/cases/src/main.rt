@@ -108,7 +108,7 @@ fn call(n: Numbers, a: &[u8], b: &[u8], c: &[u8], lent: &mut [u8]) {
         1 => logins::call(n, a, b, c),
         2 => packets::call(n, a, b, c, lent),
         3 => keys::call(n, a, b),
-        4 => links::call(n, a, b, c, lent),
+        4 => links::call(n, a, b, lent),
         _ => {}
     }
 }

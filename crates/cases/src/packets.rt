@@ -1,4 +1,4 @@
-// Cases of Challenge and Response packets and of the CCP option.
+// Cases of Challenge and Response packets, and of CCP's option and Reset-Request.
 use crate::Numbers;
 use crate::keys::strength;
 use crate::low;
@@ -8,7 +8,7 @@ use mppe_keys::Mode;
 use mppe_keys::Strength;
 use mschap_packets::Kind;
 
-// The calls 32 to 39.
+// The calls 32 to 41.
 pub fn call(n: Numbers, a: &[u8], b: &[u8], c: &[u8], lent: &mut [u8]) {
     let call = n.call;
     match call {
@@ -20,6 +20,8 @@ pub fn call(n: Numbers, a: &[u8], b: &[u8], c: &[u8], lent: &mut [u8]) {
         37 => tell_option(a),
         38 => tell_write_option(mode(n.x), strengths(n.y), lent),
         39 => tell_only(strength(n.x)),
+        40 => tell_reset(a),
+        41 => tell_write_reset(low(n.x), lent),
         _ => {}
     }
 }
@@ -90,6 +92,19 @@ fn tell_only(strength: Strength) {
     tell(0, &fields, &[]);
 }
 
+// A Reset-Request read: its identifier.
+fn tell_reset(a: &[u8]) {
+    let read = ccp::read_reset(a);
+    let identifier = read.identifier;
+    tell(read.answer, &[identifier], &[]);
+}
+
+// A Reset-Request written.
+fn tell_write_reset(identifier: u8, lent: &mut [u8]) {
+    let number = ccp::write_reset(identifier, lent);
+    tell(number, &[], lent);
+}
+
 // A set of strengths: 40, 56 and 128 bits, each 1 or 0.
 fn set_fields(strengths: Strengths) -> [u8; 3] {
     [
@@ -108,7 +123,7 @@ fn kind(n: usize) -> Kind {
 }
 
 // Mode n: 0 is stateful, as in the option.
-fn mode(n: usize) -> Mode {
+pub fn mode(n: usize) -> Mode {
     if n == 0 {
         return Mode::Stateful;
     }

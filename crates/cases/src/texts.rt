@@ -4,7 +4,7 @@ use crate::low;
 use crate::tell;
 use rc4::Rc4;
 
-// The calls 0 to 8.
+// The calls 0 to 9.
 pub fn call(n: Numbers, a: &[u8], b: &[u8], lent: &mut [u8]) {
     let call = n.call;
     match call {
@@ -17,6 +17,7 @@ pub fn call(n: Numbers, a: &[u8], b: &[u8], lent: &mut [u8]) {
         6 => tell_run(state(n, a), b, lent),
         7 => tell_draw(state(n, a)),
         8 => tell_applied(a, b, lent),
+        9 => tell_tests(state(n, a)),
         _ => {}
     }
 }
@@ -85,6 +86,15 @@ fn tell_draw(s: Rc4) {
 fn tell_applied(key: &[u8], text: &[u8], lent: &mut [u8]) {
     let answer = rc4::apply(key, text, lent);
     tell(answer, &[], lent);
+}
+
+// Whether a state is the one without a key, whether its box is a permutation, and its next two octets, which have no number.
+fn tell_tests(s: Rc4) {
+    let unkeyed = s.is_unkeyed();
+    let permutation = s.is_permutation();
+    let next = s.next_two();
+    let fields = [unkeyed as u8, permutation as u8, next[0], next[1]];
+    tell(0, &fields, &[]);
 }
 
 // The state of a case: its first input as the box, with zeros behind a short one, and two numbers as the indices.

@@ -96,26 +96,34 @@ picked-from : (option : List ℕ) (allowed : Strengths) {word : ℕ} {offers usa
 picked-from option allowed ew eo eu = eu ∙ ap (λ (o : Strengths). common o allowed) (eo ∙ ap strengthsOf ew)
 
 -- what is replied
-pub reply-shape : (option : List ℕ) (allowed : Strengths) {bits : Bits} → (bits .answer ≡ readCode option) × (bits .word ≡ supportedBits option)
-    → (bits .answer ≡ done → ⊥) → Refused shape ≡ replyAnswer option allowed
+pub reply-shape : (option : List ℕ) (allowed : Strengths) (stateful : Bool) {bits : Bits} → (bits .answer ≡ readCode option) × (bits .word ≡ supportedBits option)
+    → (bits .answer ≡ done → ⊥) → Refused shape ≡ replyAnswer option allowed stateful
 unfolding replyAnswer replyCode
-reply-shape option allowed b h = rw (ne-eqb (readCode option) done (λ e. h (b .0 ∙ e)))
+reply-shape option allowed stateful b h = rw (ne-eqb (readCode option) done (λ e. h (b .0 ∙ e)))
 
-pub reply-none : (option : List ℕ) (allowed : Strengths) {bits : Bits} {offers usable : Strengths} {none : Bool}
+pub reply-none : (option : List ℕ) (allowed : Strengths) (stateful : Bool) {bits : Bits} {offers usable : Strengths} {none : Bool}
     → (bits .answer ≡ readCode option) × (bits .word ≡ supportedBits option) → bits .answer ≡ done → offers ≡ strengthsOf (bits .word)
-    → usable ≡ common offers allowed → none ≡ noneOf usable → none ≡ true → Refused strength ≡ replyAnswer option allowed
+    → usable ≡ common offers allowed → none ≡ noneOf usable → none ≡ true → Refused strength ≡ replyAnswer option allowed stateful
 unfolding replyAnswer replyCode
-reply-none option allowed b h eo eu ea ht =
+reply-none option allowed stateful b h eo eu ea ht =
     let used = picked-from option allowed (b .1) eo eu in
     rw (eq-eqb (readCode option) done (sym (b .0) ∙ h), sym (ap noneOf used) ∙ sym ea ∙ ht)
 
-pub reply-choice : (option : List ℕ) (allowed : Strengths) {bits : Bits} {offers usable : Strengths} {none same : Bool} {best : Strength} {word : ℕ}
+pub reply-choice : (option : List ℕ) (allowed : Strengths) (stateful : Bool) {bits : Bits} {offers usable : Strengths} {none same : Bool} {best : Strength} {mode : Mode} {word : ℕ}
     → (bits .answer ≡ readCode option) × (bits .word ≡ supportedBits option) → bits .answer ≡ done → offers ≡ strengthsOf (bits .word)
     → usable ≡ common offers allowed → none ≡ noneOf usable → none ≡ false → best ≡ strongest usable
-    → word ≡ choiceWord (record { strength = best; mode = Stateless }) → eqb (bits .word) word ≡ same
-    → pick same (Accept (record { strength = best; mode = Stateless })) (CounterOffer (record { strength = best; mode = Stateless })) ≡ replyAnswer option allowed
+    → mode ≡ pick stateful (modeOf (bits .word)) Stateless → word ≡ choiceWord (record { strength = best; mode = mode }) → eqb (bits .word) word ≡ same
+    → pick same (Accept (record { strength = best; mode = mode })) (CounterOffer (record { strength = best; mode = mode })) ≡ replyAnswer option allowed stateful
 unfolding replyAnswer replyCode replyWith chosen
-reply-choice option allowed b h eo eu ea ht eb ew es =
+reply-choice option allowed stateful b h eo eu ea ht eb em ew es =
     let used = picked-from option allowed (b .1) eo eu in
     let best = eb ∙ ap strongest used in
-    rw (eq-eqb (readCode option) done (sym (b .0) ∙ h), sym (ap noneOf used) ∙ sym ea ∙ ht, ← best, ← b .1, ← ew, es)
+    let mode = em ∙ ap (λ (w : ℕ). pick stateful (modeOf w) Stateless) (b .1) in
+    rw (eq-eqb (readCode option) done (sym (b .0) ∙ h), sym (ap noneOf used) ∙ sym ea ∙ ht, ← best, ← mode, ← b .1, ← ew, es)
+
+-- the mode of a reply
+pub mode-kept : {m : Mode} (stateful : Bool) (word : ℕ) → stateful ≡ true → m ≡ modeOf word → m ≡ pick stateful (modeOf word) Stateless
+mode-kept stateful word e em = rw e em
+
+pub mode-fixed : (stateful : Bool) (word : ℕ) → stateful ≡ false → Stateless ≡ pick stateful (modeOf word) Stateless
+mode-fixed stateful word e = rw e

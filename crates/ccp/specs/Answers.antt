@@ -1,5 +1,5 @@
 -- What the calls answer (01, "Numbers a call may answer" and "The option").
-use mathlib.Core.Bool.{not}
+use mathlib.Core.Bool.{Bool, not}
 use mathlib.Core.List.{List, [], _∷_}
 use Prim.Native.Nat.{ℕ}
 use lib.Dec.{eqb, ltb}
@@ -49,21 +49,23 @@ unfoldable pub replyCode : List ℕ → Strengths → ℕ
 replyCode option allowed =
     firstOf ((shape, not (eqb (readCode option) done)) ∷ (strength, noneOf (usable option allowed)) ∷ [])
 
--- "the strongest strength that is offered and allowed, with H set"
-unfoldable pub chosen : List ℕ → Strengths → Choice
-chosen option allowed = record { strength = strongest (usable option allowed); mode = Stateless }
+-- "the strongest strength that is offered and allowed, with H set"; "If the policy allows stateful, the reply keeps the request's H" (02,
+-- M-103)
+unfoldable pub chosen : List ℕ → Strengths → (stateful : Bool) → Choice
+chosen option allowed stateful =
+    record { strength = strongest (usable option allowed); mode = pick stateful (modeOf (supportedBits option)) Stateless }
 
 -- "accept exactly if the request is that word and no other bit"
 unfoldable pub replyWith : ℕ → Choice → Reply
 replyWith word choice = pick (eqb word (choiceWord choice)) (Accept choice) (CounterOffer choice)
 
-unfoldable pub replyAnswer : List ℕ → Strengths → Reply
-replyAnswer option allowed =
-    onDone (replyCode option allowed) (replyWith (supportedBits option) (chosen option allowed)) (Refused (replyCode option allowed))
+unfoldable pub replyAnswer : List ℕ → Strengths → (stateful : Bool) → Reply
+replyAnswer option allowed stateful =
+    onDone (replyCode option allowed) (replyWith (supportedBits option) (chosen option allowed stateful)) (Refused (replyCode option allowed))
 
 -- the word of a reply: that of the choice, and 0 where it is refused
-unfoldable pub repliedWord : List ℕ → Strengths → ℕ
-repliedWord option allowed = onDone (replyCode option allowed) (choiceWord (chosen option allowed)) 0
+unfoldable pub repliedWord : List ℕ → Strengths → (stateful : Bool) → ℕ
+repliedWord option allowed stateful = onDone (replyCode option allowed) (choiceWord (chosen option allowed stateful)) 0
 
 -- the paper's number of a reply ..
 abbrev pub replyCodeOf : Reply → ℕ

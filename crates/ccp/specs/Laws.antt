@@ -4,11 +4,13 @@ use mathlib.Core.Bool.{Bool, true, false, not, false≢true}
 use mathlib.Core.List.{List, [], _∷_}
 use mathlib.Core.Logic.{_⊎_, inl, inr}
 use Prim.Native.Nat.{ℕ, zero, suc, _≤_}
+use native.Mathlib.Nat.{suc-ne-zero}
 use native.Mathlib.Omega.{arith}
 use lib.Dec.{eqb}
-use lib.ListN.{take}
+use lib.ListN.{take, getD}
 use borrow.Author.Tests.{eqb-true}
-use Rattle.answer.specs.Answer.{done, shape, strength, pick, firstOf, onDone}
+use Rattle.answer.specs.Answer.{done, shape, strength, pick, wrong, firstOf, onDone}
+use Rattle.octets.specs.Octets.{pairAt}
 use Rattle.mppe_keys.specs.Keys.{bitsOf}
 use Rattle.mppe_keys.specs.declared.Strength.{Strength}
 use Rattle.mppe_keys.specs.declared.Strength.the-variants.{Bits40, Bits56, Bits128}
@@ -17,8 +19,10 @@ use Rattle.mppe_keys.specs.declared.Mode.the-variants.{Stateless, Stateful}
 use Rattle.ccp.specs.declared.Strengths.{Strengths}
 use Rattle.ccp.specs.declared.Offer.{Offer}
 use Rattle.ccp.specs.declared.Choice.{Choice}
+use Rattle.ccp.specs.declared.reset.Reset.{Reset}
 use Rattle.ccp.specs.declared.Reply.the-variants.{Accept, CounterOffer, Refused}
 use Rattle.ccp.specs.Option.{optionLength, modeOf, strengthsOf, wordOf, optionOctets, noneOf, strongest, choiceWord}
+use Rattle.ccp.specs.Reset.{resetRequest, resetLength, resetOctets, resetRows, noReset, resetCode, resetAnswer, writeResetCode, writeResetOut}
 use Rattle.ccp.specs.Answers.{readCode, supportedBits, readAnswer, writeCode, writeOut, usable, replyCode, repliedWord, chosen, replyWith, replyAnswer, replyCodeOf, replyWord}
 
 -- what is written reads back to the same mode and strengths
@@ -50,30 +54,30 @@ unfolding writeOut optionOctets
 written-reads-back mode s out e = rw e (reads-back mode (s .bits40) (s .bits56) (s .bits128))
 
 -- the number of a reply is the first row that applies; its word is that of the choice, and 0 where it is refused
-pub reply-told : (option : List ℕ) (allowed : Strengths)
-    → (replyCodeOf (replyAnswer option allowed) ≡ replyCode option allowed)
-    × (replyWord (replyAnswer option allowed) ≡ repliedWord option allowed)
+pub reply-told : (option : List ℕ) (allowed : Strengths) (stateful : Bool)
+    → (replyCodeOf (replyAnswer option allowed stateful) ≡ replyCode option allowed)
+    × (replyWord (replyAnswer option allowed stateful) ≡ repliedWord option allowed stateful)
 unfolding replyAnswer replyWith repliedWord
-reply-told option allowed = go (replyCode option allowed) (eqb (supportedBits option) (choiceWord (chosen option allowed)))
+reply-told option allowed stateful = go (replyCode option allowed) (eqb (supportedBits option) (choiceWord (chosen option allowed stateful)))
   where
-    go : (n : ℕ) (t : Bool) → (replyCodeOf (onDone n (pick t (Accept (chosen option allowed)) (CounterOffer (chosen option allowed))) (Refused n)) ≡ n)
-        × (replyWord (onDone n (pick t (Accept (chosen option allowed)) (CounterOffer (chosen option allowed))) (Refused n)) ≡ onDone n (choiceWord (chosen option allowed)) 0)
+    go : (n : ℕ) (t : Bool) → (replyCodeOf (onDone n (pick t (Accept (chosen option allowed stateful)) (CounterOffer (chosen option allowed stateful))) (Refused n)) ≡ n)
+        × (replyWord (onDone n (pick t (Accept (chosen option allowed stateful)) (CounterOffer (chosen option allowed stateful))) (Refused n)) ≡ onDone n (choiceWord (chosen option allowed stateful)) 0)
     go zero true = (refl, refl)
     go zero false = (refl, refl)
     go (suc n) t = (refl, refl)
 
 -- an accept's word is the request's word
-pub accept-word : (option : List ℕ) (allowed : Strengths) (choice : Choice) → replyAnswer option allowed ≡ Accept choice
+pub accept-word : (option : List ℕ) (allowed : Strengths) (stateful : Bool) (choice : Choice) → replyAnswer option allowed stateful ≡ Accept choice
     → supportedBits option ≡ choiceWord choice
 unfolding replyAnswer replyWith
-accept-word option allowed choice = go (replyCode option allowed) (eqb (supportedBits option) (choiceWord (chosen option allowed))) refl
+accept-word option allowed stateful choice = go (replyCode option allowed) (eqb (supportedBits option) (choiceWord (chosen option allowed stateful))) refl
   where
-    go : (n : ℕ) (t : Bool) → eqb (supportedBits option) (choiceWord (chosen option allowed)) ≡ t
-        → onDone n (pick t (Accept (chosen option allowed)) (CounterOffer (chosen option allowed))) (Refused n) ≡ Accept choice
+    go : (n : ℕ) (t : Bool) → eqb (supportedBits option) (choiceWord (chosen option allowed stateful)) ≡ t
+        → onDone n (pick t (Accept (chosen option allowed stateful)) (CounterOffer (chosen option allowed stateful))) (Refused n) ≡ Accept choice
         → supportedBits option ≡ choiceWord choice
     go zero true e h =
-        let same : chosen option allowed ≡ choice = cc in
-        eqb-true (supportedBits option) (choiceWord (chosen option allowed)) e ∙ ap choiceWord same
+        let same : chosen option allowed stateful ≡ choice = cc in
+        eqb-true (supportedBits option) (choiceWord (chosen option allowed stateful)) e ∙ ap choiceWord same
     go zero false e h = cc
     go (suc n) t e h = cc
 
@@ -113,16 +117,16 @@ strongest-most s = go (s .bits40) (s .bits56) (s .bits128)
     go a false false Bits56 h = absurd (false≢true h)
 
 -- an accept and a counter-offer carry what was chosen
-carried : (option : List ℕ) (allowed : Strengths) (choice : Choice)
-    → (replyAnswer option allowed ≡ Accept choice) ⊎ (replyAnswer option allowed ≡ CounterOffer choice)
-    → (replyCode option allowed ≡ done) × (chosen option allowed ≡ choice)
+carried : (option : List ℕ) (allowed : Strengths) (stateful : Bool) (choice : Choice)
+    → (replyAnswer option allowed stateful ≡ Accept choice) ⊎ (replyAnswer option allowed stateful ≡ CounterOffer choice)
+    → (replyCode option allowed ≡ done) × (chosen option allowed stateful ≡ choice)
 unfolding replyAnswer replyWith
-carried option allowed choice = go (replyCode option allowed) (eqb (supportedBits option) (choiceWord (chosen option allowed)))
+carried option allowed stateful choice = go (replyCode option allowed) (eqb (supportedBits option) (choiceWord (chosen option allowed stateful)))
   where
     go : (n : ℕ) (t : Bool)
-        → (onDone n (pick t (Accept (chosen option allowed)) (CounterOffer (chosen option allowed))) (Refused n) ≡ Accept choice)
-        ⊎ (onDone n (pick t (Accept (chosen option allowed)) (CounterOffer (chosen option allowed))) (Refused n) ≡ CounterOffer choice)
-        → (n ≡ done) × (chosen option allowed ≡ choice)
+        → (onDone n (pick t (Accept (chosen option allowed stateful)) (CounterOffer (chosen option allowed stateful))) (Refused n) ≡ Accept choice)
+        ⊎ (onDone n (pick t (Accept (chosen option allowed stateful)) (CounterOffer (chosen option allowed stateful))) (Refused n) ≡ CounterOffer choice)
+        → (n ≡ done) × (chosen option allowed stateful ≡ choice)
     go zero true (inl h) = (refl, cc)
     go zero true (inr h) = (refl, cc)
     go zero false (inl h) = (refl, cc)
@@ -140,13 +144,41 @@ any-usable option allowed = go (not (eqb (readCode option) done)) (noneOf (usabl
     go false true h = cc
     go false false h = refl
 
--- the strength of an accept or a counter-offer is offered and allowed, no stronger one is both, and the mode is stateless
-pub best-choice : (option : List ℕ) (allowed : Strengths) (choice : Choice)
-    → (replyAnswer option allowed ≡ Accept choice) ⊎ (replyAnswer option allowed ≡ CounterOffer choice)
+-- the strength of an accept or a counter-offer is offered and allowed, no stronger one is both, and the mode is the one asked for where
+-- the policy allows stateful, and else stateless
+pub best-choice : (option : List ℕ) (allowed : Strengths) (stateful : Bool) (choice : Choice)
+    → (replyAnswer option allowed stateful ≡ Accept choice) ⊎ (replyAnswer option allowed stateful ≡ CounterOffer choice)
     → (has (usable option allowed) (choice .strength) ≡ true)
     × ((x : Strength) → has (usable option allowed) x ≡ true → bitsOf x ≤ bitsOf (choice .strength))
-    × (choice .mode ≡ Stateless)
+    × (choice .mode ≡ pick stateful (modeOf (supportedBits option)) Stateless)
 unfolding chosen
-best-choice option allowed choice h =
-    let told = carried option allowed choice h in
+best-choice option allowed stateful choice h =
+    let told = carried option allowed stateful choice h in
     rw (← told .1) (strongest-has (usable option allowed) (any-usable option allowed (told .0)), strongest-most (usable option allowed), refl)
+
+-- a Reset-Request that is written reads back
+pub reset-reads-back : (identifier : ℕ) (out : List ℕ) → writeResetCode out ≡ done
+    → _≡_ {A = Reset} (resetAnswer (take resetLength (writeResetOut identifier out))) (record { answer = done; identifier = identifier })
+unfolding writeResetOut resetOctets resetAnswer resetCode
+reset-reads-back identifier out e = rw e
+
+-- what the number of a Reset-Request that is read says of its rows
+pub reset-done : (request : List ℕ) → resetAnswer request .answer ≡ done → firstOf (resetRows request) ≡ done
+unfolding resetAnswer resetCode
+reset-done request e = go (firstOf (resetRows request)) refl e
+  where
+    go : (code : ℕ) → firstOf (resetRows request) ≡ code → onDone code (record { answer = done; identifier = getD request 1 0 }) noReset .answer ≡ done
+        → firstOf (resetRows request) ≡ done
+    go zero c e = c
+    go (suc n) c e = absurd (suc-ne-zero 0 e)
+
+pub reset-shape : (request : List ℕ) → (resetAnswer request .answer ≡ done → ⊥) → firstOf (resetRows request) ≡ shape
+unfolding resetAnswer resetCode
+reset-shape request h =
+    one (wrong resetLength request) (not (eqb (getD request 0 0) resetRequest)) (not (eqb (pairAt 2 request) resetLength)) (λ z. h (rw z))
+  where
+    one : (a b c : Bool) → (firstOf ((shape, a) ∷ (shape, b) ∷ (shape, c) ∷ []) ≡ done → ⊥) → firstOf ((shape, a) ∷ (shape, b) ∷ (shape, c) ∷ []) ≡ shape
+    one true b c h = refl
+    one false true c h = refl
+    one false false true h = refl
+    one false false false h = absurd (h refl)

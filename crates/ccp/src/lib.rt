@@ -1,11 +1,17 @@
-// The MPPE option of CCP (RFC 3078, section 2): read, written and replied to.
+// The MPPE option of CCP (RFC 3078, section 2): read, written and replied to. Its Reset-Request: read and written.
+mod reset;
+
 use mppe_keys::Mode;
 use mppe_keys::Strength;
 use octets::Order;
+pub use reset::Reset;
+pub use reset::read_reset;
+pub use reset::write_reset;
 ghost use mathlib.Core.Path.{_≡_};
 ghost use mathlib.Core.List.{_∷_};
 ghost use Rattle.answer.specs.Answer.{shape, pick};
 ghost use Rattle.octets.specs.Octets.{bigEndian};
+ghost use Rattle.mppe_keys.specs.declared.Mode.the-variants.{Stateless};
 ghost use Rattle.ccp.specs.Option.{optionType, optionLength, isSet, modeOf, strengthsOf, modeBit, wordOf, common as inCommon, noneOf, strongest as strongestOf, only as alone, choiceWord};
 ghost use Rattle.ccp.specs.Answers.{readCode, supportedBits, readAnswer, writeCode, writeOut, replyCode, repliedWord, replyAnswer, replyCodeOf, replyWord};
 
@@ -80,12 +86,13 @@ pub fn write(mode: Mode, strengths: Strengths, out: &mut [u8]) -> u8
     answer::DONE
 }
 
-// Replies to a request with the strongest strength that is offered and allowed; refused with 1 as in reading, then with 8 where there is none.
-pub fn reply_to(option: &[u8], allowed: Strengths) -> Reply
-    ensures { λ r. ⌜ (r ≡ replyAnswer (now (option .entry)) allowed)
-        × (replyCodeOf r ≡ replyCode (now (option .entry)) allowed) × (replyWord r ≡ repliedWord (now (option .entry)) allowed) ⌝ }
+// Replies to a request with the strongest strength that is offered and allowed, in the mode asked for where stateful is allowed; refused
+// with 1 as in reading, then with 8 where there is none.
+pub fn reply_to(option: &[u8], allowed: Strengths, stateful: bool) -> Reply
+    ensures { λ r. ⌜ (r ≡ replyAnswer (now (option .entry)) allowed stateful)
+        × (replyCodeOf r ≡ replyCode (now (option .entry)) allowed) × (replyWord r ≡ repliedWord (now (option .entry)) allowed stateful) ⌝ }
 {
-    reply_of(option, allowed)
+    reply_of(option, allowed, stateful)
 }
 
 // One strength alone, as the option of a reply has it.
@@ -112,8 +119,8 @@ pub fn only(strength: Strength) -> Strengths
 }
 
 // The reply to a request, case by case.
-fn reply_of(option: &[u8], allowed: Strengths) -> Reply
-    ensures { λ r. ⌜ r ≡ replyAnswer (now (option .entry)) allowed ⌝ }
+fn reply_of(option: &[u8], allowed: Strengths, stateful: bool) -> Reply
+    ensures { λ r. ⌜ r ≡ replyAnswer (now (option .entry)) allowed stateful ⌝ }
 {
     let bits = supported_bits(option);
     if bits.answer != answer::DONE {
@@ -125,7 +132,7 @@ fn reply_of(option: &[u8], allowed: Strengths) -> Reply
     }
     let choice = Choice {
         strength: strongest(usable),
-        mode: Mode::Stateless,
+        mode: mode_for(stateful, bits.word),
     };
     if bits.word != choice_word(choice) {
         return Reply::CounterOffer(choice);
@@ -167,6 +174,16 @@ fn is_set(word: u32, bit: u32) -> bool
     ensures { λ r. ⌜ r ≡ isSet word bit ⌝ }
 {
     (word & bit) != 0
+}
+
+// The mode of a reply to supported bits.
+fn mode_for(stateful: bool, word: u32) -> Mode
+    ensures { λ r. ⌜ r ≡ pick stateful (modeOf word) Stateless ⌝ }
+{
+    if stateful {
+        return mode_of(word);
+    }
+    Mode::Stateless
 }
 
 // The mode that supported bits name.

@@ -1,4 +1,7 @@
-// Prints what the CCP option of this repository reads, writes and replies: K9 to K12 of 01, every request and policy, and refusals.
+// Prints what the CCP option of this repository reads, writes and replies: K9 to K12 of 01, every request and policy, and refusals; and its
+// Reset-Requests.
+mod resets;
+
 use ccp::Choice;
 use ccp::Reply;
 use ccp::Strengths;
@@ -9,8 +12,10 @@ ghost use lib.ListN.{length};
 
 // Requests: each subset of H, M, S and L, in four settings of the other bits.
 const REQUESTS: usize = 64;
-// Policies: each subset of 40, 56 and 128 bits.
-const POLICIES: usize = 8;
+// Each subset of 40, 56 and 128 bits.
+const SETS: usize = 8;
+// Policies: each such set, without stateful mode and with it.
+const POLICIES: usize = 16;
 
 // Bits of the lowest octet in the four settings: none, C, D, none.
 const LOWEST: [u8; 4] = [0, 0x01, 0x10, 0];
@@ -26,13 +31,14 @@ fn main() {
     replies();
     wrong_sizes();
     wrong_fields();
+    resets::all();
 }
 
 // K9 to K12.
 fn marked() {
     io::write_all(STDOUT_FILENO, b"K9 ");
     show_read(b"\x12\x06\x01\x00\x00\x40");
-    marked_reply(b"K10 ", b"\x12\x06\x01\x00\x00\xe0", 7);
+    marked_reply(b"K10 ", b"\x12\x06\x01\x00\x00\xe0", 15);
     marked_reply(b"K11 ", b"\x12\x06\x00\x00\x00\x20", 7);
     marked_reply(b"K12 ", b"\x12\x06\x01\x00\x00\x20", 4);
 }
@@ -55,8 +61,8 @@ fn reads() {
 // Every mode with every set of strengths, written into eight octets.
 fn writes() {
     let mut i = 0;
-    while i < 2 * POLICIES {
-        show_write(mode(i / POLICIES), i % POLICIES, &mut [0xaa; 8]);
+    while i < 2 * SETS {
+        show_write(mode(i / SETS), i % SETS, &mut [0xaa; 8]);
         i += 1;
     }
 }
@@ -93,11 +99,12 @@ fn wrong_fields() {
     refused(b"\x12\x07\x01\x00\x00\x40");
 }
 
-// An option read, and replied to with all strengths allowed and with none: 1 comes before 8.
+// An option read, and replied to with all strengths allowed, with none, and with stateful mode besides: 1 comes before 8.
 fn refused(option: &[u8]) {
     show_read(option);
     show_reply(option, 7);
     show_reply(option, 0);
+    show_reply(option, 15);
 }
 
 // Request i.
@@ -150,11 +157,7 @@ fn show_read(option: &[u8]) {
     let offer = ccp::read(option);
     let mode = offer.mode;
     let strengths = offer.strengths;
-    let set = set_of(strengths);
-    match mode {
-        Mode::Stateless => report::numbered(b"stateless", set, offer.answer, option),
-        Mode::Stateful => report::numbered(b"stateful", set, offer.answer, option),
-    }
+    show_mode(mode, set_of(strengths), offer.answer, option);
 }
 
 // The line of an option written: set of strengths, number, the buffer afterwards.
@@ -163,13 +166,13 @@ fn show_write(mode: Mode, set: usize, out: &mut [u8]) {
     report::numbered(b"written", set, answer, out);
 }
 
-// The line of a reply: its kind, the policy, its number, the request in eight octets, the reply's option.
+// The line of a reply: its kind and mode, the policy, its number, the request in eight octets, the reply's option.
 fn show_reply(option: &[u8], policy: usize) {
     let mut shown = [0u8; 14];
     octets::copy(option, &mut shown);
-    match ccp::reply_to(option, strengths(policy)) {
-        Reply::Accept(choice) => show_choice(b"accept", policy, choice, &mut shown),
-        Reply::CounterOffer(choice) => show_choice(b"counter-offer", policy, choice, &mut shown),
+    match ccp::reply_to(option, strengths(policy), SETS <= policy) {
+        Reply::Accept(choice) => show_choice(b"accept ", policy, choice, &mut shown),
+        Reply::CounterOffer(choice) => show_choice(b"counter-offer ", policy, choice, &mut shown),
         Reply::Refused(number) => report::numbered(b"refused", policy, number, &shown),
     }
 }
@@ -181,5 +184,14 @@ fn show_choice(kind: &[u8], policy: usize, choice: Choice, shown: &mut [u8])
     let mode = choice.mode;
     let strength = choice.strength;
     let answer = ccp::write(mode, ccp::only(strength), &mut shown[8..]);
-    report::numbered(kind, policy, answer, shown);
+    io::write_all(STDOUT_FILENO, kind);
+    show_mode(mode, policy, answer, shown);
+}
+
+// A line behind a mode, with a number.
+fn show_mode(mode: Mode, n: usize, answer: u8, octets: &[u8]) {
+    match mode {
+        Mode::Stateless => report::numbered(b"stateless", n, answer, octets),
+        Mode::Stateful => report::numbered(b"stateful", n, answer, octets),
+    }
 }

@@ -2,26 +2,26 @@
 use mathlib.Core.Path.{_≡_, refl, sym, ap, _∙_}
 use mathlib.Core.Bool.{Bool, true, false, not}
 use mathlib.Core.List.{List, [], _∷_, append-nil}
-use Prim.Native.Nat.{ℕ, zero, suc, _-_, _%_, _≤_, _<_}
-use native.Mathlib.Nat.{suc-ne-zero}
+use Prim.Native.Nat.{ℕ, zero, suc, _-_, _≤_, _<_}
 use native.Mathlib.Omega.{arith}
-use lib.Dec.{eqb, ltb}
+use lib.Dec.{ltb}
 use lib.ListN.{length, take, replicate, drop-of-length-le}
 use lib.Seq.{take-all, take-at}
-use borrow.Author.Tests.{eq-eqb, lt-ltb, le-ltb}
+use borrow.Author.Tests.{lt-ltb, le-ltb}
 use Rattle.answer.specs.Answer.{done, room, size, strength, pick, firstOf, onDone, wrong, oneCode, twoCode}
 use Rattle.answer.specs.Laws.{rows-pass, rows-stop, not-done, right}
 use Rattle.octets.specs.Octets.{written}
 use Rattle.mschap.specs.declared.Hash.{Hash}
-use Rattle.mschap.specs.Lengths.{longestPassword, responseLength}
+use Rattle.mschap.specs.Lengths.{responseLength}
 use Rattle.mschap.specs.Mschap.{passwordHash, hashHash}
 use Rattle.mschap.specs.Answers.{passwordRows, hashAnswer, passwordHashAnswer, hashHashAnswer}
 use Rattle.mschap.specs.Laws.{passwordHash-length, hashHash-length, hashHash-done}
 use Rattle.mppe_keys.specs.declared.Strength.{Strength}
+use Rattle.mppe_keys.specs.declared.Mode.{Mode}
 use Rattle.mppe_keys.specs.declared.Role.{Role}
 use Rattle.mppe_keys.specs.declared.Direction.{Direction}
 use Rattle.mppe_keys.specs.declared.Key.{Key}
-use Rattle.mppe_keys.specs.Keys.{bitsOf, keyLength, startKey, placed}
+use Rattle.mppe_keys.specs.Keys.{bitsOf, keyLength, byMode, modeIf, startKey, placed}
 use Rattle.mppe_keys.specs.Answers.{keyAnswer, masterKeyAnswer, startKeyAnswer}
 use Rattle.mppe_keys.specs.Laws.{key-most, masterKey-length, startKey-length}
 use Rattle.ccp.specs.declared.Strengths.{Strengths}
@@ -39,7 +39,7 @@ use Rattle.mppe_record.specs.Record.{strengthOf, noStrength, recordLength, reco
 use Rattle.mppe_record.specs.Laws.{read-length}
 use Rattle.host.specs.declared.Reply.{Reply}
 use Rattle.host.specs.declared.Opened.{Opened}
-use Rattle.host.specs.Host.{Given, Linked, given, roleOf, directionOf, startKeyFrom, masterKeyFrom, credentialRows, startKeyGiven, choiceOctets, optionGiven, optionReply, choiceReply, replyOf, replyOctets, newLinkGiven, linkedBy, unchanged, linked, openedBy}
+use Rattle.host.specs.Host.{Given, Linked, given, roleOf, directionOf, startKeyFrom, masterKeyFrom, credentialRows, startKeyGiven, choiceOctets, optionGiven, optionReply, choiceReply, noReply, replyOf, replyOctets, newLinkGiven, linkedBy, unchanged, linked, openedBy}
 
 -- a call's number and the lent buffer after it are those of a definition ..
 abbrev pub Gave : ℕ → List ℕ → Given → Type 0
@@ -155,11 +155,11 @@ start-given {s} {role} {direction} {key} {n = n} bits server send password respo
     told (same ∙ rw (h, es, er, ed)) w
 
 -- a new link, given over
-pub new-given : {s : Strength} {new : NewLink} {octets out′ : List ℕ} {r : ℕ} (bits : ℕ) (start out : List ℕ) → noStrength bits ≡ false
-    → s ≡ strengthOf bits → new ≡ newLink s start → octets ≡ recordOctets (new .link) → Gave r out′ (given (new .answer) octets out)
-    → Gave r out′ (newLinkGiven bits start out)
+pub new-given : {s : Strength} {mode : Mode} {new : NewLink} {octets out′ : List ℕ} {r : ℕ} (bits : ℕ) (stateful : Bool) (start out : List ℕ) → noStrength bits ≡ false
+    → s ≡ strengthOf bits → mode ≡ modeIf stateful → new ≡ newLink s mode start → octets ≡ recordOctets (new .link) → Gave r out′ (given (new .answer) octets out)
+    → Gave r out′ (newLinkGiven bits stateful start out)
 unfolding newLinkGiven newLink
-new-given bits start out h es en eo w = told (rw (eo, en, es, h)) w
+new-given bits stateful start out h es em en eo w = told (rw (eo, en, es, em, h)) w
 
 -- a reply's option written
 pub choice-written : {number : ℕ} {strengths : Strengths} {out′ : List ℕ} (c : Choice) (out : List ℕ) → strengths ≡ only (c .strength)
@@ -169,25 +169,25 @@ unfolding given choiceOctets optionOctets writeOut
 choice-written c out e w = (w .0, w .1 ∙ rw e)
 
 pub choice-refused : {r : Reply} {n number : ℕ} (accept : Bool) (c : Choice) → number ≡ n → (number ≡ done → ⊥)
-    → r ≡ record { answer = number; accept = false; bits = 0 } → r ≡ choiceReply accept c n
+    → r ≡ noReply number → r ≡ choiceReply accept c n
 unfolding choiceReply
 choice-refused {number = zero} accept c e h er = absurd (h refl)
 choice-refused {number = suc n} accept c e h er = rw (← e) er
 
-pub choice-replied : {n number b : ℕ} (accept : Bool) (c : Choice) → number ≡ n → number ≡ done → b ≡ bitsOf (c .strength)
-    → _≡_ {A = Reply} (record { answer = number; accept = accept; bits = b }) (choiceReply accept c n)
+pub choice-replied : {n number b : ℕ} {t : Bool} (accept : Bool) (c : Choice) → number ≡ n → number ≡ done → b ≡ bitsOf (c .strength)
+    → t ≡ byMode (c .mode) false true → _≡_ {A = Reply} (record { answer = number; accept = accept; bits = b; stateful = t }) (choiceReply accept c n)
 unfolding choiceReply
-choice-replied accept c e h eb = rw (← e, h, eb)
+choice-replied accept c e h eb et = rw (← e, h, eb, et)
 
-pub replied : {rep rep′ : CcpReply} {r : Reply} {out′ : List ℕ} (option : List ℕ) (allowed : Strengths) (out : List ℕ)
-    → rep ≡ replyAnswer option allowed → rep ≡ rep′
+pub replied : {rep rep′ : CcpReply} {r : Reply} {out′ : List ℕ} (option : List ℕ) (allowed : Strengths) (stateful : Bool) (out : List ℕ)
+    → rep ≡ replyAnswer option allowed stateful → rep ≡ rep′
     → (r ≡ replyOf rep′ (given (replyCodeOf rep′) (replyOctets rep′) out .code))
     × (out′ ≡ given (replyCodeOf rep′) (replyOctets rep′) out .buffer)
-    → (r ≡ optionReply option allowed out) × (out′ ≡ optionGiven option allowed out .buffer)
+    → (r ≡ optionReply option allowed stateful out) × (out′ ≡ optionGiven option allowed stateful out .buffer)
 unfolding optionReply optionGiven
-replied option allowed out e e′ w = rw (sym e ∙ e′) w
+replied option allowed stateful out e e′ w = rw (sym e ∙ e′) w
 
-pub reply-refused : {r : Reply} (number : ℕ) (out : List ℕ) → r ≡ record { answer = number; accept = false; bits = 0 }
+pub reply-refused : {r : Reply} (number : ℕ) (out : List ℕ) → r ≡ noReply number
     → (r ≡ replyOf (Refused number) (given number [] out .code)) × (out ≡ given number [] out .buffer)
 unfolding given
 reply-refused zero out e = rw (le-ltb (length out) 0 (omega arith)) (e, refl)
@@ -199,7 +199,7 @@ pub record-put : {octets out′ : List ℕ} (l : Link) (out : List ℕ) → octe
 record-put {octets} l out e w h h′ =
     w ∙ rw (take-all (length out) octets (omega arith), drop-of-length-le out {i = length octets} (omega arith), append-nil) e
 
--- octets that hold a record are 35
+-- octets that hold a record are 295
 pub held-length : {read : RecordRead} (octets : List ℕ) → read ≡ recordRead octets → read .answer ≡ done → length octets ≡ recordLength
 held-length octets e h = read-length octets (sym (ap (λ (r : RecordRead). r .answer) e) ∙ h)
 
@@ -228,3 +228,6 @@ pub open-told : {l l′ : Linked} → l ≡ l′ → (_≡_ {A = Opened} (record
     × (l .octets ≡ l′ .octets) × (l .buffer ≡ l′ .buffer)
 unfolding openedBy
 open-told e = (ap openedBy e, ap (λ l. l .octets) e, ap (λ l. l .buffer) e)
+
+pub reset-told : {l l′ : Linked} → l ≡ l′ → (l .code ≡ l′ .code) × (l .octets ≡ l′ .octets)
+reset-told e = (ap (λ l. l .code) e, ap (λ l. l .octets) e)

@@ -1,10 +1,12 @@
 -- Demand 3 for a program in C, proved: from demand 3 over records, since a list of calls on octets is the list of calls on records.
 use mathlib.Core.Path.{_≡_, refl, sym, ap, _∙_}
+use mathlib.Core.Bool.{false}
 use mathlib.Core.List.{List, [], _∷_, map}
 use Prim.Native.Nat.{ℕ}
 use lib.ListN.{length}
 use Rattle.answer.specs.Answer.{done}
 use Rattle.mppe_keys.specs.declared.Strength.{Strength}
+use Rattle.mppe_keys.specs.declared.Mode.the-variants.{Stateless}
 use Rattle.mppe_keys.specs.Keys.{bitsOf}
 use Rattle.mppe.specs.declared.Link.{Link}
 use Rattle.mppe.specs.Link.{Result, longestPlain, farthest, newLink, newLinkCode, sealResult, openResult}
@@ -40,24 +42,24 @@ opens-linked (c ∷ cs) l h =
     (open-sized longestPlain farthest l (octetsLent c) (roomLent c) h) (opens-linked cs)
 
 -- a new link's number
-new-code : (s : Strength) (start : List ℕ) → newLink s start .answer ≡ done → newLinkCode s start ≡ done
+new-code : (s : Strength) (start : List ℕ) → newLink s Stateless start .answer ≡ done → newLinkCode s start ≡ done
 unfolding newLink
 new-code s start ok = ok
 
--- every strength and start key that make a new link begin such a run, in any 35 lent octets
-pub begins : (s : Strength) (start lent : List ℕ) → newLink s start .answer ≡ done → length lent ≡ recordLength
+-- every strength and start key that make a new link begin such a run, in any 295 lent octets
+pub begins : (s : Strength) (start lent : List ℕ) → newLink s Stateless start .answer ≡ done → length lent ≡ recordLength
     → Begun (bitsOf s) start (recordOctets (first s start))
 unfolding newLinkGiven
 begins s start lent ok h =
-    let all : length (recordOctets (first s start)) ≡ length lent = recordOctets-length (first s start) (new-sized s start) ∙ sym h in
+    let all : length (recordOctets (first s start)) ≡ length lent = recordOctets-length (first s start) (new-sized s Stateless start) ∙ sym h in
     let code : newLinkCode s start ≡ done = new-code s start ok in
     (lent, h, rw (bits-known s, bits-back s, code) (given-fits (recordOctets (first s start)) lent all))
 
 -- and what they begin with
 begun-is : (bits : ℕ) (start octets : List ℕ) → Begun bits start octets
-    → (newLink (strengthOf bits) start .answer ≡ done) × (octets ≡ recordOctets (first (strengthOf bits) start))
+    → (newLink (strengthOf bits) Stateless start .answer ≡ done) × (octets ≡ recordOctets (first (strengthOf bits) start))
 begun-is bits start octets (lent, long, e) =
-    let (ok, whole) = new-whole bits start lent long (ap (λ (g : Given). g .code) e) in
+    let (ok, whole) = new-whole bits false start lent long (ap (λ (g : Given). g .code) e) in
     (ok, sym (ap (λ (g : Given). g .buffer) e) ∙ whole)
 
 pub demand-3-in-c : Demand3InC
@@ -67,6 +69,6 @@ demand-3-in-c bits start sender receiver sent received seals opens line =
     let (ok, sender-is) = begun-is bits start sender sent in
     let (_, receiver-is) = begun-is bits start receiver received in
     let (said, due) = demand-3-base s start ok seals opens line in
-    let sized : Sized (first s start) = new-sized s start in
+    let sized : Sized (first s start) = new-sized s Stateless start in
     rw (sender-is, receiver-is)
     (seals-linked seals (first s start) sized ∙ ap (map linkedBy) said, opens-linked opens (first s start) sized ∙ ap (map linkedBy) due)

@@ -17,7 +17,7 @@ use Rattle.mppe_keys.specs.declared.Role.{Role}
 use Rattle.mppe_keys.specs.declared.Role.the-variants.{Client, Server}
 use Rattle.mppe_keys.specs.declared.Direction.{Direction}
 use Rattle.mppe_keys.specs.declared.Direction.the-variants.{Send, Receive}
-use Rattle.mppe_keys.specs.Keys.{bitsOf, keyLength, masterKey, startKey}
+use Rattle.mppe_keys.specs.Keys.{bitsOf, keyLength, byMode, modeIf, masterKey, startKey}
 use Rattle.ccp.specs.declared.Strengths.{Strengths}
 use Rattle.ccp.specs.declared.Choice.{Choice}
 use Rattle.ccp.specs.declared.Reply.{Reply as CcpReply}
@@ -25,7 +25,7 @@ use Rattle.ccp.specs.declared.Reply.the-variants.{Accept, CounterOffer, Refused
 use Rattle.ccp.specs.Option.{optionOctets, only}
 use Rattle.ccp.specs.Answers.{replyAnswer, replyCodeOf}
 use Rattle.mppe.specs.declared.Link.{Link}
-use Rattle.mppe.specs.Link.{Result, longestPlain, farthest, newLink, sealResult, openResult}
+use Rattle.mppe.specs.Link.{Result, longestPlain, farthest, newLink, sealResult, openResult, resetOutcome}
 use Rattle.mppe_record.specs.declared.RecordRead.{RecordRead}
 use Rattle.mppe_record.specs.Record.{strengthOf, noStrength, recordOctets, recordRead}
 use Rattle.sstp.specs.declared.Key.{Key}
@@ -107,30 +107,35 @@ replyOctets (CounterOffer c) = choiceOctets c
 replyOctets (Refused code) = []
 
 -- .. and what is told of it; "an option reply is neither accept nor counter-offer" where its number is not 0
+abbrev pub noReply : ℕ → Reply
+noReply code = record { answer = code; accept = false; bits = 0; stateful = false }
+
 unfoldable pub choiceReply : Bool → Choice → ℕ → Reply
-choiceReply accept c code = record { answer = code; accept = onDone code accept false; bits = onDone code (bitsOf (c .strength)) 0 }
+choiceReply accept c code =
+    onDone code (record { answer = code; accept = accept; bits = bitsOf (c .strength); stateful = byMode (c .mode) false true }) (noReply code)
 
 abbrev pub replyOf : CcpReply → ℕ → Reply
 replyOf (Accept c) code = choiceReply true c code
 replyOf (CounterOffer c) code = choiceReply false c code
-replyOf (Refused refused) code = record { answer = code; accept = false; bits = 0 }
+replyOf (Refused refused) code = noReply code
 
 -- the strengths that a policy allows, by a yes or no for each
 abbrev pub allowedOf : Bool → Bool → Bool → Strengths
 allowedOf bits40 bits56 bits128 = record { bits40 = bits40; bits56 = bits56; bits128 = bits128 }
 
 -- "Option reply: 1, 8", then 2
-unfoldable pub optionGiven : (option : List ℕ) (allowed : Strengths) (out : List ℕ) → Given
-optionGiven option allowed out = given (replyCodeOf (replyAnswer option allowed)) (replyOctets (replyAnswer option allowed)) out
+unfoldable pub optionGiven : (option : List ℕ) (allowed : Strengths) (stateful : Bool) (out : List ℕ) → Given
+optionGiven option allowed stateful out =
+    given (replyCodeOf (replyAnswer option allowed stateful)) (replyOctets (replyAnswer option allowed stateful)) out
 
-unfoldable pub optionReply : (option : List ℕ) (allowed : Strengths) (out : List ℕ) → Reply
-optionReply option allowed out = replyOf (replyAnswer option allowed) (optionGiven option allowed out .code)
+unfoldable pub optionReply : (option : List ℕ) (allowed : Strengths) (stateful : Bool) (out : List ℕ) → Reply
+optionReply option allowed stateful out = replyOf (replyAnswer option allowed stateful) (optionGiven option allowed stateful out .code)
 
 -- a new link: 8 where the number is no strength (house), before all else; "Start key: 16 at 128 bits, else 8"
-unfoldable pub newLinkGiven : (bits : ℕ) (start out : List ℕ) → Given
-newLinkGiven bits start out =
+unfoldable pub newLinkGiven : (bits : ℕ) (stateful : Bool) (start out : List ℕ) → Given
+newLinkGiven bits stateful start out =
     given (firstOf ((strength, noStrength bits) ∷ (size, wrong (keyLength (strengthOf bits)) start) ∷ []))
-    (recordOctets (newLink (strengthOf bits) start .link)) out
+    (recordOctets (newLink (strengthOf bits) (modeIf stateful) start .link)) out
 
 -- what a call on the record in lent octets gives: its number, the key changes made, and both lent buffers after it
 pub record Linked : Type 0 where
@@ -149,7 +154,7 @@ linkedBy r =
       buffer = r .buffer;
     }
 
--- "Refusals 1 to 9 hand back the record given and change no lent octet", and so does 10
+-- "Refusals 1 to 9 hand back the record given and change no lent octet", and so does 10; "No refusal but 11 changes a record"
 abbrev pub unchanged : (code : ℕ) (octets out : List ℕ) → Linked
 unchanged code octets out = record { code = code; changed = 0; octets = octets; buffer = out }
 
@@ -167,3 +172,7 @@ openLinked octets packet out = linked (λ l. openResult longestPlain farthest l 
 
 unfoldable pub openedBy : Linked → Opened
 openedBy l = record { answer = l .code; changes = l .changed }
+
+-- a Reset-Request; it has no buffer for a result
+unfoldable pub resetLinked : (octets request : List ℕ) → Linked
+resetLinked octets request = linked (λ l. record { outcome = resetOutcome l request; buffer = [] }) octets []

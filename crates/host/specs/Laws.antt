@@ -2,19 +2,21 @@
 use mathlib.Core.Path.{_≡_, refl, sym, ap, _∙_}
 use mathlib.Core.Bool.{Bool, true, false}
 use mathlib.Core.Logic.{_≢_}
-use mathlib.Core.List.{List, append-nil}
+use mathlib.Core.List.{List, [], append-nil}
 use Prim.Native.Nat.{ℕ, zero, suc, _≤_}
 use native.Mathlib.Omega.{arith}
+use lib.Dec.{eqb}
 use lib.ListN.{length, drop-of-length-le}
 use borrow.Author.Tests.{le-ltb}
-use Rattle.answer.specs.Answer.{done, strength, pick, onDone}
+use Rattle.answer.specs.Answer.{done, strength, waiting, pick, onDone}
 use Rattle.mppe_keys.specs.declared.Strength.{Strength}
+use Rattle.mppe_keys.specs.Keys.{byMode, modeIf}
 use Rattle.mppe.specs.declared.Link.{Link}
-use Rattle.mppe.specs.Link.{Result, longestPlain, farthest, newLink, newLinkCode, refusal, sealCode, sealResult, openCode, openResult}
+use Rattle.mppe.specs.Link.{Result, longestPlain, farthest, newLink, newLinkCode, withBox, headerIn, refusal, sealCode, sealResult, waited, openCode, openResult, resetCode, resetOutcome}
 use Rattle.mppe.specs.Laws.{report-bound}
 use Rattle.mppe_record.specs.Record.{strengthOf, noStrength, recordLength, recordOctets, recordRead}
 use Rattle.mppe_record.specs.Laws.{Sized, Octets, recordOctets-length, reads-back, writes-back, new-sized}
-use Rattle.host.specs.Host.{Given, Linked, given, newLinkGiven, linkedBy, unchanged, linked, sealLinked, openLinked}
+use Rattle.host.specs.Host.{Given, Linked, given, newLinkGiven, linkedBy, unchanged, linked, sealLinked, openLinked, resetLinked}
 
 -- a call on the octets of a record is the call on that record
 pub linked-on : (call : Link → Result) (l : Link) (out : List ℕ) → Sized l → linked call (recordOctets l) out ≡ linkedBy (call l)
@@ -32,15 +34,16 @@ linked-kept call octets out all same = go (recordRead octets .answer) refl
     go zero ok = ap recordOctets same ∙ writes-back octets all ok
     go (suc n) ok = refl
 
--- "Refusals 1 to 9 hand back the record given and change no lent octet", and so does 10: of a call on records ..
-abbrev pub Refuses : (Link → Result) → List ℕ → Type 0
-Refuses call out = (l : Link) → call l .outcome .answer ≢ done → call l ≡ refusal (call l .outcome .answer) l out
+-- "Refusals 1 to 9 hand back the record given and change no lent octet", and so does 10; "No refusal but 11 changes a record": with the
+-- numbers by which a call on records leaves all as it was ..
+abbrev pub Refuses : (Stays : ℕ → Type 0) → (Link → Result) → List ℕ → Type 0
+Refuses Stays call out = (l : Link) → Stays (call l .outcome .answer) → call l ≡ refusal (call l .outcome .answer) l out
 
--- .. and so of the call on the record in lent octets
-pub linked-refused : (call : Link → Result) (octets out : List ℕ) → Refuses call out → Octets octets → linked call octets out .code ≢ done
-    → linked call octets out ≡ unchanged (linked call octets out .code) octets out
+-- .. the call on the record in lent octets does too
+pub linked-refused : (Stays : ℕ → Type 0) (call : Link → Result) (octets out : List ℕ) → Refuses Stays call out → Octets octets
+    → Stays (linked call octets out .code) → linked call octets out ≡ unchanged (linked call octets out .code) octets out
 unfolding linked
-linked-refused call octets out refuses all = go (recordRead octets .answer) refl
+linked-refused Stays call octets out refuses all = go (recordRead octets .answer) refl
   where
     held : Link
     held = recordRead octets .link
@@ -48,32 +51,70 @@ linked-refused call octets out refuses all = go (recordRead octets .answer) refl
     made : ℕ → Linked
     made code = onDone code (linkedBy (call held)) (unchanged code octets out)
 
-    go : (code : ℕ) → recordRead octets .answer ≡ code → made code .code ≢ done → made code ≡ unchanged (made code .code) octets out
-    go zero e not0 =
-        ap linkedBy (refuses held not0) ∙ ap (λ o. unchanged (call held .outcome .answer) o out) (writes-back octets all e)
-    go (suc n) e not0 = refl
+    go : (code : ℕ) → recordRead octets .answer ≡ code → Stays (made code .code) → made code ≡ unchanged (made code .code) octets out
+    go zero e stays = ap linkedBy (refuses held stays) ∙ ap (λ o. unchanged (call held .outcome .answer) o out) (writes-back octets all e)
+    go (suc n) e stays = refl
 
--- seal and open are such calls
-refuses : (code : ℕ) (r : Result) (l : Link) (out : List ℕ) → r .outcome .answer ≡ done → onDone code r (refusal code l out) .outcome .answer ≢ done
-    → onDone code r (refusal code l out) ≡ refusal (onDone code r (refusal code l out) .outcome .answer) l out
-refuses zero r l out e not0 = absurd (not0 e)
-refuses (suc n) r l out e not0 = refl
+-- seal and a Reset-Request are such calls with every number but 0 ..
+abbrev NotDone : ℕ → Type 0
+NotDone code = code ≢ done
 
 pub seal-refused : (octets plain out : List ℕ) → Octets octets → sealLinked octets plain out .code ≢ done
     → sealLinked octets plain out ≡ unchanged (sealLinked octets plain out .code) octets out
 unfolding sealLinked
-seal-refused octets plain out = linked-refused (λ l. sealResult longestPlain l plain out) octets out each
+seal-refused octets plain out = linked-refused NotDone (λ l. sealResult longestPlain l plain out) octets out each
   where
-    each : Refuses (λ l. sealResult longestPlain l plain out) out
-    each l = unfold sealResult in refuses (sealCode longestPlain l plain (length out)) _ l out refl
+    each : Refuses NotDone (λ l. sealResult longestPlain l plain out) out
+    each l = unfold sealResult in refuses (sealCode longestPlain l plain (length out)) _ refl
+      where
+        refuses : (code : ℕ) (r : Result) → r .outcome .answer ≡ done → NotDone (onDone code r (refusal code l out) .outcome .answer)
+            → onDone code r (refusal code l out) ≡ refusal (onDone code r (refusal code l out) .outcome .answer) l out
+        refuses zero r e stays = absurd (stays e)
+        refuses (suc n) r e stays = refl
 
-pub open-refused : (octets packet out : List ℕ) → Octets octets → openLinked octets packet out .code ≢ done
+pub reset-refused : (octets request : List ℕ) → Octets octets → resetLinked octets request .code ≢ done
+    → resetLinked octets request ≡ unchanged (resetLinked octets request .code) octets []
+unfolding resetLinked
+reset-refused octets request = linked-refused NotDone (λ l. record { outcome = resetOutcome l request; buffer = [] }) octets [] each
+  where
+    each : Refuses NotDone (λ l. record { outcome = resetOutcome l request; buffer = [] }) []
+    each l = unfold resetOutcome in refuses (resetCode l request)
+      where
+        taken : ℕ → Result
+        taken code =
+            record {
+              outcome = record { answer = code; changes = 0; link = onDone code (withBox l (l .state) (byMode (l .mode) (l .waiting) true)) l };
+              buffer = [];
+            }
+
+        refuses : (code : ℕ) → NotDone code → taken code ≡ refusal code l []
+        refuses zero stays = absurd (stays refl)
+        refuses (suc n) stays = refl
+
+-- .. and open with every number but 0 and 11
+abbrev NorWaiting : ℕ → Type 0
+NorWaiting code = (code ≢ done) × (code ≢ waiting)
+
+pub open-refused : (octets packet out : List ℕ) → Octets octets → openLinked octets packet out .code ≢ done → openLinked octets packet out .code ≢ waiting
     → openLinked octets packet out ≡ unchanged (openLinked octets packet out .code) octets out
 unfolding openLinked
-open-refused octets packet out = linked-refused (λ l. openResult longestPlain farthest l packet out) octets out each
+open-refused octets packet out all not0 not11 =
+    linked-refused NorWaiting (λ l. openResult longestPlain farthest l packet out) octets out each all (not0, not11)
   where
-    each : Refuses (λ l. openResult longestPlain farthest l packet out) out
-    each l = unfold openResult in refuses (openCode longestPlain farthest l packet (length out)) _ l out refl
+    each : Refuses NorWaiting (λ l. openResult longestPlain farthest l packet out) out
+    each l = unfold openResult in opens (openCode longestPlain farthest l packet (length out)) _ (waited l (headerIn packet) out) refl refl
+      where
+        opens : (code : ℕ) (r w : Result) → r .outcome .answer ≡ done → w .outcome .answer ≡ waiting
+            → NorWaiting (onDone code r (pick (eqb code waiting) w (refusal code l out)) .outcome .answer)
+            → onDone code r (pick (eqb code waiting) w (refusal code l out))
+            ≡ refusal (onDone code r (pick (eqb code waiting) w (refusal code l out)) .outcome .answer) l out
+        opens zero r w e e′ (not0, not11) = absurd (not0 e)
+        opens (suc n) r w e e′ (not0, not11) = by (eqb (suc n) waiting) not11
+          where
+            by : (t : Bool) → pick t w (refusal (suc n) l out) .outcome .answer ≢ waiting
+                → pick t w (refusal (suc n) l out) ≡ refusal (pick t w (refusal (suc n) l out) .outcome .answer) l out
+            by true not11 = absurd (not11 e′)
+            by false not11 = refl
 
 -- no report is above the farthest distance, whatever the record's octets and the packet are
 pub open-report-bound : (octets packet out : List ℕ) → openLinked octets packet out .changed ≤ farthest
@@ -99,14 +140,15 @@ unfolding given
 given-whole zero result out h ok = (refl, ap (λ (g : Given). g .buffer) (given-fits result out h))
 given-whole (suc n) result out h ok = absurd (omega arith)
 
--- a new link that answered 0 into 35 lent octets leaves the octets of its record there
-pub new-whole : (bits : ℕ) (start lent : List ℕ) → length lent ≡ recordLength → newLinkGiven bits start lent .code ≡ done
-    → (newLink (strengthOf bits) start .answer ≡ done) × (newLinkGiven bits start lent .buffer ≡ recordOctets (newLink (strengthOf bits) start .link))
+-- a new link that answered 0 into 295 lent octets leaves the octets of its record there
+pub new-whole : (bits : ℕ) (stateful : Bool) (start lent : List ℕ) → length lent ≡ recordLength → newLinkGiven bits stateful start lent .code ≡ done
+    → (newLink (strengthOf bits) (modeIf stateful) start .answer ≡ done)
+    × (newLinkGiven bits stateful start lent .buffer ≡ recordOctets (newLink (strengthOf bits) (modeIf stateful) start .link))
 unfolding newLinkGiven newLink
-new-whole bits start lent h ok =
+new-whole bits stateful start lent h ok =
     let s : Strength = strengthOf bits in
-    let l : Link = newLink s start .link in
-    let all : length (recordOctets l) ≡ length lent = recordOctets-length l (new-sized s start) ∙ sym h in
+    let l : Link = newLink s (modeIf stateful) start .link in
+    let all : length (recordOctets l) ≡ length lent = recordOctets-length l (new-sized s (modeIf stateful) start) ∙ sym h in
     let (code, whole) = given-whole (pick (noStrength bits) strength (newLinkCode s start)) (recordOctets l) lent all ok in
     (behind (noStrength bits) (newLinkCode s start) code, whole)
   where

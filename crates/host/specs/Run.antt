@@ -1,7 +1,8 @@
--- Demand 3 for a program in C, in the words of 01, "The run of demand 3": the two lists of calls, each end with a record in 35 lent
+-- Demand 3 for a program in C, in the words of 01, "The run of demand 3": the two lists of calls, each end with a record in 295 lent
 -- octets. The history, its packets, what is asked of the line, and what is said and due are those of crates/mppe/specs/Run.antt.
 -- `Demand3InC` at the end is the claim.
 use mathlib.Core.Path.{_≡_}
+use mathlib.Core.Bool.{false}
 use mathlib.Core.List.{List, [], _∷_, map}
 use Prim.Native.Nat.{ℕ}
 use lib.ListN.{length}
@@ -12,10 +13,10 @@ use Rattle.mppe.specs.Run.{mostLost, SealCall, OpenCall, octetsLent, roomLent, 
 use Rattle.mppe_record.specs.Record.{strengthOf, recordLength}
 use Rattle.host.specs.Host.{Linked, newLinkGiven, linkedBy, sealLinked, openLinked}
 
--- "Both ends begin with one and the same record, that of a new link that answered 0": what such a call leaves in 35 lent octets
+-- "Both ends begin with one and the same record, that of a new link that answered 0": what such a call leaves in 295 lent octets
 abbrev pub Begun : (bits : ℕ) (start octets : List ℕ) → Type 0
 Begun bits start octets =
-    (lent : List ℕ) × (length lent ≡ recordLength) × (newLinkGiven bits start lent ≡ record { code = done; buffer = octets })
+    (lent : List ℕ) × (length lent ≡ recordLength) × (newLinkGiven bits false start lent ≡ record { code = done; buffer = octets })
 
 -- "Each call gets the record that the last call at its end handed back": the octets as that call left them
 unfoldable pub sealsLinked : List ℕ → List SealCall → List Linked

@@ -1,18 +1,21 @@
 // What a concentrator written in C calls, over numbers and octets; include/udukemb.h says the same to C.
 ghost use mathlib.Core.Path.{_≡_};
 ghost use lib.ListN.{length};
-ghost use mathlib.Core.Bool.{false};
+ghost use mathlib.Core.Bool.{true, false};
 ghost use Rattle.answer.specs.Answer.{done, firstOf};
 ghost use Rattle.mschap.specs.Answers.{checkResponseAnswer, checkAuthenticatorAnswer};
 ghost use Rattle.mppe_keys.specs.Answers.{keyAnswer};
+ghost use Rattle.ccp.specs.Reset.{writeResetCode, writeResetOut};
 ghost use Rattle.mppe_record.specs.Record.{recordLength, recordOctets};
-ghost use Rattle.host.specs.Host.{given, checkOf, ntResponseGiven, authenticatorStringGiven, roleOf, directionOf, baseKeyGiven, bindingKeyGiven, startKeyFrom, masterKeyFrom, credentialRows, startKeyGiven, choiceOctets, allowedOf, optionGiven, optionReply, choiceReply, newLinkGiven, sealLinked, openLinked, openedBy};
+ghost use Rattle.host.specs.Host.{given, checkOf, ntResponseGiven, authenticatorStringGiven, roleOf, directionOf, baseKeyGiven, bindingKeyGiven, startKeyFrom, masterKeyFrom, credentialRows, startKeyGiven, choiceOctets, allowedOf, optionGiven, optionReply, choiceReply, noReply, newLinkGiven, sealLinked, openLinked, openedBy, resetLinked};
 use ccp::Choice;
 use ccp::Strengths;
 use mppe::Link;
 use mppe_keys::Direction;
 use mppe_keys::Role;
 use mppe_keys::Strength;
+use mppe_keys::is_stateful;
+use mppe_keys::mode_if;
 use mppe_record::bits_of;
 use mppe_record::no_strength;
 use mppe_record::read_record;
@@ -27,12 +30,14 @@ pub struct Check {
     pub yes: bool,
 }
 
-// The number answered, whether the reply is an accept, and the strength picked in bits; a no and 0 where it is refused.
+// The number answered, whether the reply is an accept, the strength picked in bits, and whether the mode is stateful; a no and 0 where it
+// is refused.
 #[repr(C)]
 pub struct Reply {
     pub answer: u8,
     pub accept: bool,
     pub bits: u8,
+    pub stateful: bool,
 }
 
 // The number answered, and the key changes made; none where it is refused.
@@ -163,24 +168,25 @@ pub extern "C" fn udukemb_binding_key(material: &[u8], out: &mut [u8]) -> u8
     give(key.answer, &octets, out)
 }
 
-// The reply to a requested option, of the strengths that are allowed.
+// The reply to a requested option, of the strengths that are allowed, in the mode asked for where stateful is allowed.
 #[no_mangle]
 pub extern "C" fn udukemb_option_reply(
     option: &[u8],
     bits40: bool,
     bits56: bool,
     bits128: bool,
+    stateful: bool,
     out: &mut [u8],
 ) -> Reply
-    ensures { λ r. ⌜ (r ≡ optionReply (now (option .entry)) (allowedOf bits40 bits56 bits128) (now (out .entry)))
-        × (now (out .exit) ≡ optionGiven (now (option .entry)) (allowedOf bits40 bits56 bits128) (now (out .entry)) .buffer) ⌝ }
+    ensures { λ r. ⌜ (r ≡ optionReply (now (option .entry)) (allowedOf bits40 bits56 bits128) stateful (now (out .entry)))
+        × (now (out .exit) ≡ optionGiven (now (option .entry)) (allowedOf bits40 bits56 bits128) stateful (now (out .entry)) .buffer) ⌝ }
 {
     let allowed = Strengths {
         bits40,
         bits56,
         bits128,
     };
-    match ccp::reply_to(option, allowed) {
+    match ccp::reply_to(option, allowed, stateful) {
         ccp::Reply::Accept(choice) => put_reply(true, choice, out),
         ccp::Reply::CounterOffer(choice) => put_reply(false, choice, out),
         ccp::Reply::Refused(number) => refused_reply(number),
@@ -189,14 +195,19 @@ pub extern "C" fn udukemb_option_reply(
 
 // The link record that both ends begin with.
 #[no_mangle]
-pub extern "C" fn udukemb_new_link(bits: u8, start: &[u8], link_record: &mut [u8]) -> u8
-    ensures { λ r. ⌜ (r ≡ newLinkGiven bits (now (start .entry)) (now (link_record .entry)) .code)
-        × (now (link_record .exit) ≡ newLinkGiven bits (now (start .entry)) (now (link_record .entry)) .buffer) ⌝ }
+pub extern "C" fn udukemb_new_link(
+    bits: u8,
+    stateful: bool,
+    start: &[u8],
+    link_record: &mut [u8],
+) -> u8
+    ensures { λ r. ⌜ (r ≡ newLinkGiven bits stateful (now (start .entry)) (now (link_record .entry)) .code)
+        × (now (link_record .exit) ≡ newLinkGiven bits stateful (now (start .entry)) (now (link_record .entry)) .buffer) ⌝ }
 {
     if no_strength(bits) {
         return answer::STRENGTH;
     }
-    let new = Link::new(strength_of(bits), start);
+    let new = Link::new(strength_of(bits), mode_if(stateful), start);
     let link = new.link;
     let octets = record_octets(link);
     give(new.answer, &octets, link_record)
@@ -240,6 +251,30 @@ pub extern "C" fn udukemb_open(link_record: &mut [u8], packet: &[u8], out: &mut 
         answer: opened.answer,
         changes: opened.changes,
     }
+}
+
+// Takes a Reset-Request with the record in lent octets.
+#[no_mangle]
+pub extern "C" fn udukemb_reset(link_record: &mut [u8], request: &[u8]) -> u8
+    ensures { λ r. ⌜ (r ≡ resetLinked (now (link_record .entry)) (now (request .entry)) .code)
+        × (now (link_record .exit) ≡ resetLinked (now (link_record .entry)) (now (request .entry)) .octets) ⌝ }
+{
+    let read = read_record(link_record);
+    if read.answer != answer::DONE {
+        return read.answer;
+    }
+    let link = read.link;
+    let taken = link.reset(request);
+    put_record(taken.link, link_record);
+    taken.answer
+}
+
+// Writes a Reset-Request.
+#[no_mangle]
+pub extern "C" fn udukemb_write_reset(identifier: u8, out: &mut [u8]) -> u8
+    ensures { λ r. ⌜ (r ≡ writeResetCode (now (out .entry))) × (now (out .exit) ≡ writeResetOut identifier (now (out .entry))) ⌝ }
+{
+    ccp::write_reset(identifier, out)
 }
 
 // Writes a result into the front of a lent buffer, where it came with 0 and has room.
@@ -337,17 +372,19 @@ fn put_reply(accept: bool, choice: Choice, out: &mut [u8]) -> Reply
         answer: number,
         accept,
         bits: bits_of(strength),
+        stateful: is_stateful(mode),
     }
 }
 
 // A refusal of a reply.
 fn refused_reply(number: u8) -> Reply
-    ensures { λ r. ⌜ r ≡ record { answer = number; accept = false; bits = 0 } ⌝ }
+    ensures { λ r. ⌜ r ≡ noReply number ⌝ }
 {
     Reply {
         answer: number,
         accept: false,
         bits: 0,
+        stateful: false,
     }
 }
 

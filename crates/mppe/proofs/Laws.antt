@@ -1,33 +1,152 @@
 -- The ways out of the link's functions, over plain lists and numbers.
 use mathlib.Core.Path.{_≡_, refl, sym, ap, _∙_}
-use mathlib.Core.Bool.{Bool, true, false, not, _&&_}
+use mathlib.Core.Bool.{Bool, true, false, not, _&&_, _||_, and-true, and-false, true≢false, false≢true}
 use mathlib.Core.List.{List, [], _∷_, _++_, append-assoc, append-nil}
 use Prim.Native.Nat.{ℕ, zero, suc, _+_, _*_, _-_, _/_, _%_, _^_, _<_, _≤_}
+use native.Mathlib.Nat.{suc-ne-zero}
 use native.Mathlib.Numerals.{add-one}
 use native.Mathlib.Omega.{arith}
-use lib.Dec.{ltb, lit≤}
+use lib.Bits.{bitXor}
+use lib.Dec.{eqb, ltb}
 use lib.ListN.{length, take, drop, getD, replicate, drop-of-length-le, length-append, length-drop}
-use lib.Seq.{drop-cons, drop-drop, drop-length, take-all, take-at, drop-at}
-use borrow.Author.Tests.{lt-ltb, le-ltb, eq-eqb, ne-eqb, ltb-true, ltb-false, eqb-false, not-true, not-false}
+use lib.Seq.{length-take-le, drop-cons, drop-drop, drop-length, take-all, take-at, drop-at}
+use borrow.Author.Tests.{lt-ltb, le-ltb, eq-eqb, ne-eqb, ltb-true, ltb-false, not-true, not-false}
 use borrow.Rule.Slice.PartMut.{putMid}
-use Rattle.answer.specs.Answer.{done, shape, room, size, protocol, repeat, notRecord, outside, wrong, firstOf, onDone, oneCode}
-use Rattle.answer.specs.Laws.{both, clear, rows-pass, rows-stop, not-done, outside-low, within, right, right-length}
+use Rattle.answer.specs.Answer.{done, shape, room, size, protocol, notRecord, waiting, pick, outside, wrong, firstOf, onDone, oneCode}
+use Rattle.answer.specs.Laws.{both, clear, never, rows-pass, rows-stop, not-done, outside-low, within, right, right-length}
 use Rattle.octets.specs.Octets.{written}
 use Rattle.rc4.specs.declared.Rc4.{Rc4}
-use Rattle.rc4.specs.Cipher.{keySchedule, run}
-use Rattle.rc4.specs.Answers.{runOut}
-use Rattle.rc4.specs.Laws.{run-done}
+use Rattle.rc4.specs.declared.Ran.{Ran}
+use Rattle.rc4.specs.Cipher.{keySchedule, step, drawn, run, after, permutation, unkeyed, isUnkeyed}
+use Rattle.rc4.specs.Answers.{runAnswer, runOut, applyOut}
+use Rattle.rc4.specs.Laws.{run-done, apply-done}
+use Rattle.rc4.specs.Permutation.{unkeyed-permutation}
 use Rattle.mppe_keys.specs.declared.Strength.{Strength}
+use Rattle.mppe_keys.specs.declared.Mode.{Mode}
+use Rattle.mppe_keys.specs.declared.Mode.the-variants.{Stateless, Stateful}
 use Rattle.mppe_keys.specs.declared.Key.{Key}
-use Rattle.mppe_keys.specs.Keys.{keyLength, headOf, begins, changes, rc4}
+use Rattle.mppe_keys.specs.Keys.{keyLength, byMode, headOf, begins, changes}
 use Rattle.mppe_keys.specs.Answers.{keyAnswer, initialKeyAnswer, placedChanges}
-use Rattle.mppe_keys.specs.Laws.{key-placed, key-most, keyChange-length, changes-one}
+use Rattle.mppe_keys.specs.Laws.{key-placed, key-least, key-most, changes-length}
+use Rattle.ccp.specs.declared.reset.Reset.{Reset}
+use Rattle.ccp.specs.Reset.{resetRows, resetAnswer}
+use Rattle.ccp.specs.Laws.{reset-done, reset-shape}
 use Rattle.mppe.specs.declared.Link.{Link}
 use Rattle.mppe.specs.declared.Outcome.{Outcome}
-use Rattle.mppe.specs.Link.{shortestPlain, longestPlain, front, counts, newCount, zeros, wellFormed, startKeyIn, sessionKeyIn, renewed, newLink, newLinkCode, offProtocol, bitA, bitD, header, sealedPacket, headerIn, dataIn, countOf, Result, refusal}
-use Rattle.mppe.specs.Link.{plainRows, nextCount, nextKey, sealCode, sealResult, changesFor, keyFor, plainFor, linkAfter, frontRows, headerRows, dataRows, openCode, openResult}
-use Rattle.mppe.specs.Inner.{frontCode, roomRows, headerCode, dataResult}
-use Rattle.mppe.specs.Laws.{key-back}
+use Rattle.mppe.specs.Link.{boxFits, opensBy, changesOver, withBox, keptBox, noLink, packetOn, shortestPlain, longestPlain, front, counts, newCount, zeros, wellFormed, startKeyIn, sessionKeyIn, renewed, newLink, newLinkCode, offProtocol, bitA, bitD, header, headerIn, dataIn, countOf, Result, refusal}
+use Rattle.mppe.specs.Link.{plainRows, nextCount, nextChanges, nextKey, keysAfresh, nextBox, sealCode, sealResult, awayFor, changesFor, keyFor, boxFor, stateFor, plainFor, waited, lacks, linkAfter, frontRows, headerRows, dataRows, openCode, openResult, resetCode, resetOutcome}
+use Rattle.mppe.specs.Inner.{frontCode, roomRows, headerCode, cipherIn, settledOn, waitedOn, dataResult}
+use Rattle.mppe.specs.Laws.{key-back, endings-are, well-box, fits-unmarked}
+
+-- the counts that end in 0xFF, as code counts them
+pub stateless-changes : (mode : Mode) (last d : ℕ) → mode ≡ Stateless → d ≡ changesOver mode last d
+unfolding changesOver
+stateless-changes mode last d e = rw e
+
+pub stateful-changes : (mode : Mode) (last d : ℕ) → mode ≡ Stateful → (last + d + 1) / 256 - (last + 1) / 256 ≡ changesOver mode last d
+unfolding changesOver
+stateful-changes mode last d e = rw e (sym (endings-are last d))
+
+-- what a mode decides
+pub by-stateless : {A : Type 0} {r : A} (mode : Mode) (a b : A) → mode ≡ Stateless → r ≡ a → r ≡ byMode mode a b
+by-stateless mode a b e er = rw e er
+
+pub by-stateful : {A : Type 0} {r : A} (mode : Mode) (a b : A) → mode ≡ Stateful → r ≡ b → r ≡ byMode mode a b
+by-stateful mode a b e er = rw e er
+
+-- whether there is a box to open with, test by test
+pub opens-fresh : (t lacksA : Bool) (away : ℕ) (mark : Bool) → t ≡ lacksA → not t ≡ true → true ≡ opensBy lacksA away mark
+opens-fresh t lacksA away mark e h = rw (← e, not-true t h)
+
+pub opens-far : (t lacksA : Bool) (away : ℕ) (mark : Bool) → t ≡ lacksA → not t ≡ false → (away ≡ 1 → ⊥) → false ≡ opensBy lacksA away mark
+opens-far t lacksA away mark e h far = rw (← e, not-false t h, ne-eqb away 1 far)
+
+pub opens-next : (t lacksA : Bool) (away : ℕ) (mark : Bool) → t ≡ lacksA → not t ≡ false → away ≡ 1 → not mark ≡ opensBy lacksA away mark
+opens-next t lacksA away mark e h near = rw (← e, not-false t h, eq-eqb away 1 near)
+
+-- a box and a mark that a mode asks for
+pub fits-marked : {mark : Bool} (mode : Mode) (state : Rc4) → mode ≡ Stateless → mark ≡ true → false ≡ boxFits mode state mark
+unfolding boxFits
+fits-marked mode state em e = rw (em, e, and-false (isUnkeyed state), and-false (permutation (state .cells)))
+
+pub fits-stateless : {mark t : Bool} (mode : Mode) (state : Rc4) → mode ≡ Stateless → mark ≡ false → t ≡ isUnkeyed state → t ≡ boxFits mode state mark
+unfolding boxFits
+fits-stateless {mark} {t} mode state em e et = rw (em, e, ← et) (by t et)
+  where
+    by : (t : Bool) → t ≡ isUnkeyed state → t ≡ permutation (state .cells) && (t && true)
+    by true et = sym (rw (unkeyed-permutation state (sym et)))
+    by false et = sym (and-false (permutation (state .cells)))
+
+pub fits-stateful : {t : Bool} (mode : Mode) (state : Rc4) (mark : Bool) → mode ≡ Stateful → t ≡ permutation (state .cells) → t ≡ boxFits mode state mark
+unfolding boxFits
+fits-stateful mode state mark em e = rw em (e ∙ sym (and-true (permutation (state .cells))))
+
+-- the bits above a header's count
+pub flags-fresh : (fresh : Bool) → fresh ≡ true → 0x9000 ≡ pick fresh bitA 0 + bitD
+flags-fresh fresh e = rw e
+
+pub flags-held : (fresh : Bool) → fresh ≡ false → 0x1000 ≡ pick fresh bitA 0 + bitD
+flags-held fresh e = rw e
+
+-- a cipher, keyed afresh or as it is held
+pub cipher-fresh : {r : Rc4} (fresh : Bool) (keyed held : Rc4) → fresh ≡ true → r ≡ keyed → r ≡ pick fresh keyed held
+cipher-fresh fresh keyed held e er = rw e er
+
+pub cipher-held : (fresh : Bool) (keyed held : Rc4) → fresh ≡ false → held ≡ pick fresh keyed held
+cipher-held fresh keyed held e = rw e
+
+-- a text enciphered under a record: from the key at once in stateless mode, and on the box in stateful mode
+pub applied : {ys : List ℕ} {n : ℕ} (l : Link) (fresh : Bool) (text out : List ℕ) → l .mode ≡ Stateless → byMode (l .mode) fresh true ≡ true
+    → length text ≤ longestPlain → length text ≤ length out → length (l .session) ≡ 16 → n ≡ keyLength (l .strength)
+    → ys ≡ applyOut (take n (l .session)) text out
+    → (l .state ≡ keptBox l (after (cipherIn l fresh) text)) × (ys ≡ written (run (cipherIn l fresh) text) out)
+applied l fresh text out mode always short fits full en ey =
+    let most = key-most (l .strength) in
+    let least = key-least (l .strength) in
+    let long : length (sessionKeyIn l) ≡ keyLength (l .strength) = length-take-le (keyLength (l .strength)) (l .session) (omega arith) in
+    let is : fresh ≡ true = rw mode at always in
+    let done-is = apply-done (sessionKeyIn l) text out (omega (arith, long)) (omega (arith, long)) (omega arith) fits in
+    (rw mode, ey ∙ rw (en, is) (done-is .1))
+
+pub drawn-on : {cipher : Rc4} {ran : Ran} {ys : List ℕ} (l : Link) (fresh : Bool) (text out : List ℕ) → l .mode ≡ Stateful → length text ≤ longestPlain
+    → length text ≤ length out → cipher ≡ cipherIn l fresh → (ran ≡ runAnswer cipher text out) × (ys ≡ runOut cipher text out)
+    → (ran .state ≡ keptBox l (after (cipherIn l fresh) text)) × (ys ≡ written (run (cipherIn l fresh) text) out)
+drawn-on {cipher} {ran} l fresh text out mode short fits ec (er, ey) =
+    let (state-is, run-is) = run-done (cipherIn l fresh) text out (omega arith) fits in
+    let ran-is : ran ≡ record { answer = done; state = after (cipherIn l fresh) text } = er ∙ rw ec state-is in
+    (ap (λ (x : Ran). x .state) ran-is ∙ rw mode, ey ∙ rw ec run-is)
+
+-- a stateless packet is keyed afresh
+pub fresh-stateless : {made count : ℕ} {next : Link} {fresh : Bool} (l : Link) (key : List ℕ) → made ≡ nextChanges l → next ≡ renewed l key count
+    → fresh ≡ (not (eqb made 0) || l .waiting) → byMode (next .mode) fresh true ≡ true
+unfolding changesOver
+fresh-stateless {made} {count} {next} {fresh} l key em en ef = rw en (by (l .mode) refl)
+  where
+    by : (mode : Mode) → l .mode ≡ mode → byMode mode fresh true ≡ true
+    by Stateless e = ef ∙ rw (em, e)
+    by Stateful e = refl
+
+-- a record after draws
+pub settled-stateful : {r : Link} {t : Bool} (l : Link) (drawn : Rc4) → t ≡ byMode (l .mode) false true → t ≡ true → r ≡ withBox l drawn false → r ≡ settledOn l drawn
+settled-stateful l drawn e t er = er ∙ by (l .mode) (sym e ∙ t)
+  where
+    by : (mode : Mode) → byMode mode false true ≡ true → withBox l drawn false ≡ withBox l (byMode mode (l .state) drawn) false
+    by Stateless h = absurd (false≢true h)
+    by Stateful h = refl
+
+pub settled-stateless : {r : Link} {t : Bool} (l : Link) (drawn : Rc4) → t ≡ byMode (l .mode) false true → t ≡ false → r ≡ withBox l (l .state) false → r ≡ settledOn l drawn
+settled-stateless l drawn e t er = er ∙ by (l .mode) (sym e ∙ t)
+  where
+    by : (mode : Mode) → byMode mode false true ≡ false → withBox l (l .state) false ≡ withBox l (byMode mode (l .state) drawn) false
+    by Stateless h = refl
+    by Stateful h = absurd (true≢false h)
+
+-- a record that waits
+pub waits-on : {l′ : Link} {cipher : Rc4} (l : Link) (made : ℕ) → cipher ≡ pick (not (eqb made 0)) (keySchedule (sessionKeyIn l)) (l .state)
+    → l′ ≡ withBox l cipher true → record { answer = waiting; changes = made; link = l′ } ≡ waitedOn l made
+unfolding waitedOn
+waits-on l zero ec el = rw (el, ec)
+waits-on l (suc n) ec el = rw (el, ec, ne-eqb (suc n) 0 (suc-ne-zero n))
 
 -- one place more that is 0, one that is not, and the end of the places
 pub zeros-more : {b : Bool} (l : List ℕ) (i : ℕ) → b ≡ zeros (drop i l) → getD l i 0 ≡ 0 → i < length l → b ≡ zeros (drop (i + 1) l)
@@ -51,50 +170,60 @@ protocol-high {r} {n} e h = rw (e, le-ltb n 0x0021 (omega arith))
 
 -- a record whose session key is changed
 pub moved-is : {places : List ℕ} (l : Link) (n count : ℕ) → places ≡ placedChanges (l .strength) (l .start) (l .session) n
-    → record { strength = l .strength; start = l .start; session = places; count = count }
+    → record { strength = l .strength; mode = l .mode; start = l .start; session = places; count = count; state = l .state; waiting = l .waiting }
     ≡ renewed l (changes (l .strength) (startKeyIn l) n (sessionKeyIn l)) count
 unfolding placedChanges
 moved-is l n count e = rw e
 
 -- the front of a sealed packet
-pub front-put : {out′ : List ℕ} (count a b : ℕ) (out : List ℕ) → out′ ≡ written (take (length out) (0x00 ∷ 0xFD ∷ a ∷ b ∷ [])) out
-    → a ≡ (0x9000 + count) / 256 → b ≡ (0x9000 + count) % 256 → count < counts → front ≤ length out → out′ ≡ written (0x00 ∷ 0xFD ∷ header count) out
-front-put count a b out e ea eb h long =
+pub front-put : {flag : ℕ} {out′ : List ℕ} (fresh : Bool) (count a b : ℕ) (out : List ℕ) → out′ ≡ written (take (length out) (0x00 ∷ 0xFD ∷ a ∷ b ∷ [])) out
+    → flag ≡ pick fresh bitA 0 + bitD → a ≡ (flag + count) / 256 → b ≡ (flag + count) % 256 → count < counts → front ≤ length out
+    → out′ ≡ written (0x00 ∷ 0xFD ∷ header fresh count) out
+front-put true count a b out e ef ea eb h long =
     let high : a ≡ (bitA + bitD + count) / 256 ^ 1 % 256 = omega arith in
     let low : b ≡ (bitA + bitD + count) / 256 ^ 0 % 256 = omega arith in
     rw (e, take-all (length out) (0x00 ∷ 0xFD ∷ a ∷ b ∷ []) long, high, low)
+front-put false count a b out e ef ea eb h long =
+    let high : a ≡ (0 + bitD + count) / 256 ^ 1 % 256 = omega arith in
+    let low : b ≡ (0 + bitD + count) / 256 ^ 0 % 256 = omega arith in
+    rw (e, take-all (length out) (0x00 ∷ 0xFD ∷ a ∷ b ∷ []) long, high, low)
 
 -- the first two octets of what a cipher gives
-pub pair-runs : {r : Bool} {two : List ℕ} (s : Rc4) (text : List ℕ) → two ≡ runOut s (take 2 text) (0 ∷ 0 ∷ [])
-    → r ≡ outside 0x0021 0x00FA (getD two 0 0 * 256 + getD two 1 0) → 2 ≤ length text → r ≡ offProtocol (run s text)
+pub pair-runs : {r : Bool} {two : List ℕ} (s : Rc4) (text : List ℕ) → two ≡ drawn s ∷ drawn (step s) ∷ []
+    → r ≡ outside 0x0021 0x00FA (bitXor (getD text 0 0) (getD two 0 0) * 256 + bitXor (getD text 1 0) (getD two 1 0)) → 2 ≤ length text
+    → r ≡ offProtocol (run s text)
 unfolding run
 pair-runs s [] e er h = absurd (omega arith)
 pair-runs s (x ∷ []) e er h = absurd (omega arith)
-pair-runs s (x ∷ y ∷ text) e er h = er ∙ rw (e, run-done s (x ∷ y ∷ []) (0 ∷ 0 ∷ []) (lit≤ tt) (lit≤ tt) .1)
+pair-runs s (x ∷ y ∷ text) e er h = er ∙ rw e
 
 -- a start key of a wrong length, and one of the right one
 new-code : {k : Key} (s : Strength) (start : List ℕ) → k ≡ initialKeyAnswer s start → k .answer ≡ newLinkCode s start
 unfolding initialKeyAnswer keyAnswer oneCode
 new-code s start e = ap (λ (k : Key). k .answer) e
 
-pub new-refused : {k : Key} (s : Strength) (start : List ℕ) → k ≡ initialKeyAnswer s start → (k .answer ≡ done → ⊥)
-    → record { answer = size; link = record { strength = s; start = replicate 16 0; session = replicate 16 0; count = 0 } } ≡ newLink s start
+pub new-refused : {k : Key} {l : Link} (s : Strength) (mode : Mode) (start : List ℕ) → k ≡ initialKeyAnswer s start → (k .answer ≡ done → ⊥)
+    → l ≡ noLink s mode → record { answer = size; link = l } ≡ newLink s mode start
 unfolding newLink
-new-refused s start e h = rw (only (wrong (keyLength s) start) λ z. h (new-code s start e ∙ z))
+new-refused s mode start e h el = rw (only (wrong (keyLength s) start) (λ z. h (new-code s start e ∙ z)), el)
   where
     only : (t : Bool) → (firstOf ((size, t) ∷ []) ≡ done → ⊥) → t ≡ true
     only true h = refl
     only false h = absurd (h refl)
 
-pub new-done : {k : Key} {places : List ℕ} (s : Strength) (start : List ℕ) → k ≡ initialKeyAnswer s start → k .answer ≡ done
-    → places ≡ written (take 16 start) (replicate 16 0)
-    → record { answer = done; link = record { strength = s; start = places; session = k .octets; count = newCount } } ≡ newLink s start
+pub new-done : {k : Key} {places : List ℕ} {state : Rc4} {mark : Bool} (s : Strength) (mode : Mode) (start : List ℕ) → k ≡ initialKeyAnswer s start
+    → k .answer ≡ done → places ≡ written (take 16 start) (replicate 16 0) → state ≡ unkeyed → mark ≡ byMode mode false true
+    → record {
+      answer = done;
+      link = record { strength = s; mode = mode; start = places; session = k .octets; count = newCount; state = state; waiting = mark };
+    }
+    ≡ newLink s mode start
 unfolding newLink initialKeyAnswer keyAnswer oneCode
-new-done s start e h ep =
+new-done s mode start e h ep es em =
     let code : newLinkCode s start ≡ done = sym (new-code s start e) ∙ h in
     let long = right-length (keyLength s) start (clear size ((size, wrong (keyLength s) start) ∷ []) refl code .0) in
     let key = key-placed start ep (omega (arith, long, key-most s)) in
-    rw (e, right (keyLength s) start long, key)
+    rw (e, right (keyLength s) start long, key, es, em)
 
 -- a test and its opposite, as code takes them
 pub fails : {r : Bool} (t : Bool) → r ≡ t → not r ≡ true → t ≡ false
@@ -121,16 +250,23 @@ pub well-session : {n : ℕ} (l : Link) → n ≡ keyLength (l .strength) → l 
 unfolding wellFormed
 well-session l e h a b = rw (lt-ltb (l .count) counts h, ← e, a, b)
 
-pub well-last : {n : ℕ} {r : Bool} (l : Link) → n ≡ keyLength (l .strength) → l .count < counts → zeros (drop n (l .start)) ≡ true
-    → zeros (drop n (l .session)) ≡ true → r ≡ begins (headOf (l .strength)) (l .session) → r ≡ wellFormed l
+pub well-head : {n : ℕ} (l : Link) → n ≡ keyLength (l .strength) → l .count < counts → zeros (drop n (l .start)) ≡ true
+    → zeros (drop n (l .session)) ≡ true → begins (headOf (l .strength)) (l .session) ≡ false → false ≡ wellFormed l
 unfolding wellFormed
-well-last l e h a b last = last ∙ rw (lt-ltb (l .count) counts h, ← e, a, b)
+well-head l e h a b c = rw (lt-ltb (l .count) counts h, ← e, a, b, c)
+
+pub well-last : {n : ℕ} {r : Bool} (l : Link) → n ≡ keyLength (l .strength) → l .count < counts → zeros (drop n (l .start)) ≡ true
+    → zeros (drop n (l .session)) ≡ true → begins (headOf (l .strength)) (l .session) ≡ true → r ≡ boxFits (l .mode) (l .state) (l .waiting) → r ≡ wellFormed l
+unfolding wellFormed
+well-last l e h a b c last = last ∙ rw (lt-ltb (l .count) counts h, ← e, a, b, c)
 
 -- a well-formed record's count
 pub count-bound : (l : Link) → wellFormed l ≡ true → l .count < counts
 unfolding wellFormed
 count-bound l h =
-    ltb-true (l .count) counts (both (ltb (l .count) counts) _ (both (ltb (l .count) counts && _) _ (both (ltb (l .count) counts && _ && _) _ h .0) .0) .0)
+    ltb-true (l .count) counts
+    (both (ltb (l .count) counts) _
+    (both (ltb (l .count) counts && _) _ (both (ltb (l .count) counts && _ && _) _ (both (ltb (l .count) counts && _ && _ && _) _ h .0) .0) .0) .0)
 
 -- what a call hands back and leaves in the lent buffer is a result
 abbrev pub Gives : Outcome → List ℕ → Result → Type 0
@@ -167,8 +303,8 @@ part-behind {out₁} head out e h =
     (part, sym (length-drop 4 out₁) ∙ ap (λ (m : List ℕ). length m) part)
 
 -- there is such a part
-pub front-long : {out₁ : List ℕ} (count : ℕ) (out : List ℕ) → out₁ ≡ written (0x00 ∷ 0xFD ∷ header count) out → 4 ≤ length out₁
-front-long count out e = rw e (omega arith)
+pub front-long : {out₁ : List ℕ} (fresh : Bool) (count : ℕ) (out : List ℕ) → out₁ ≡ written (0x00 ∷ 0xFD ∷ header fresh count) out → 4 ≤ length out₁
+front-long fresh count out e = rw e (omega arith)
 
 -- a text put there
 behind-put : {out₁ ys : List ℕ} (head text out : List ℕ) → out₁ ≡ written head out → ys ≡ written text (drop 4 out) → length head ≡ 4
@@ -179,24 +315,52 @@ behind-put {out₁} head text out e ey h =
     rw
     (ey, lead, part, long, drop-length (drop 4 out), append-nil, append-assoc, length-append head text, h, drop-drop (length text) 4 out)
 
-pub seal-finished : {code count : ℕ} {next : Link} {cipher : Rc4} {out₁ ys : List ℕ} (l : Link) (plain out : List ℕ)
-    → code ≡ sealCode longestPlain l plain (length out) → code ≡ done → count ≡ (l .count + 1) % counts
-    → next ≡ renewed l (changes (l .strength) (startKeyIn l) 1 (sessionKeyIn l)) count → out₁ ≡ written (0x00 ∷ 0xFD ∷ header count) out
-    → cipher ≡ keySchedule (sessionKeyIn next) → ys ≡ runOut cipher plain (take (length out₁ - 4) (drop 4 out₁))
-    → Gives (record { answer = done; changes = 1; link = next }) (putMid 4 (length out₁ - 4) out₁ ys) (sealResult longestPlain l plain out)
-unfolding sealResult sealedPacket
-seal-finished {code} {count} {next} {cipher} {out₁} {ys} l plain out e z ec en eo eci ey =
+-- the session key after n changes fills its places
+changed-back : (l : Link) (n : ℕ) → length (l .session) ≡ 16
+    → sessionKeyIn (renewed l (changes (l .strength) (startKeyIn l) n (sessionKeyIn l)) (l .count)) ≡ changes (l .strength) (startKeyIn l) n (sessionKeyIn l)
+changed-back l n long =
+    let s : Strength = l .strength in
+    let held : length (sessionKeyIn l) ≡ keyLength s = length-take-le (keyLength s) (l .session) (omega (arith, long, key-most s)) in
+    key-back s (changes s (startKeyIn l) n (sessionKeyIn l)) (changes-length s (startKeyIn l) n (sessionKeyIn l) held)
+
+-- the room behind it
+whole-behind : {out₁ : List ℕ} (head out : List ℕ) → out₁ ≡ written head out → length head ≡ 4 → take (length out₁ - 4) (drop 4 out₁) ≡ drop 4 out
+whole-behind head out eh h4 =
+    let (part, long) = part-behind head out eh h4 in
+    rw (part, long) (take-all (length (drop 4 out)) (drop 4 out) (omega arith))
+
+pub behind-fits : {out₁ : List ℕ} (fresh : Bool) (count n : ℕ) (out : List ℕ) → out₁ ≡ written (0x00 ∷ 0xFD ∷ header fresh count) out → front + n ≤ length out
+    → n ≤ length (take (length out₁ - 4) (drop 4 out₁))
+behind-fits fresh count n out eh fits = rw (whole-behind (0x00 ∷ 0xFD ∷ header fresh count) out eh refl) (omega (arith, length-drop 4 out))
+
+-- a seal that is done, from what code works out
+pub seal-finished : {code count made : ℕ} {next last : Link} {fresh : Bool} {kept : Rc4} {out₁ ys : List ℕ} (l : Link) (plain out : List ℕ)
+    → length (l .session) ≡ 16 → code ≡ sealCode longestPlain l plain (length out) → code ≡ done → count ≡ nextCount l → made ≡ nextChanges l
+    → next ≡ renewed l (changes (l .strength) (startKeyIn l) made (sessionKeyIn l)) count → fresh ≡ (not (eqb made 0) || l .waiting)
+    → out₁ ≡ written (0x00 ∷ 0xFD ∷ header fresh count) out
+    → (kept ≡ keptBox next (after (cipherIn next fresh) plain))
+    × (ys ≡ written (run (cipherIn next fresh) plain) (take (length out₁ - 4) (drop 4 out₁)))
+    → last ≡ withBox next kept false
+    → Gives (record { answer = done; changes = made; link = last }) (putMid 4 (length out₁ - 4) out₁ ys) (sealResult longestPlain l plain out)
+unfolding sealResult packetOn nextBox nextKey
+seal-finished {code} {count} {made} {next} {last} {fresh} {kept} {out₁} {ys} l plain out full e z ec em en ef eo (ek, ey) el =
     let key : List ℕ = nextKey l in
-    let bounds = seal-passed longestPlain l plain (length out) e z in
-    let is : next ≡ renewed l key (nextCount l) = en ∙ rw (changes-one (l .strength) (startKeyIn l) (sessionKeyIn l), ec) in
-    let keyed : cipher ≡ keySchedule key = eci ∙ rw (is, key-back (l .strength) key (keyChange-length (l .strength) (startKeyIn l) (sessionKeyIn l))) in
-    let head : List ℕ = 0x00 ∷ 0xFD ∷ header (nextCount l) in
-    let eh : out₁ ≡ written head out = eo ∙ rw ec in
-    let (part, long) = part-behind head out eh refl in
-    let room = length-drop 4 out in
-    let run-is : ys ≡ written (rc4 key plain) (drop 4 out) =
-    ey ∙ rw (part, long, take-all (length (drop 4 out)) (drop 4 out) (omega arith), keyed, run-done (keySchedule key) plain (drop 4 out) (omega arith) (omega arith) .1) in
-    rw (← e, z, is) (refl, behind-put head (rc4 key plain) out eh run-is refl)
+    let is : next ≡ renewed l key (nextCount l) = en ∙ rw (em, ec) in
+    let session : sessionKeyIn next ≡ key = ap sessionKeyIn is ∙ changed-back l (nextChanges l) full in
+    let freshly : fresh ≡ keysAfresh l = ef ∙ rw em in
+    let keyed : cipherIn next fresh ≡ nextBox l = rw (freshly, session, is) in
+    let head : List ℕ = 0x00 ∷ 0xFD ∷ header (keysAfresh l) (nextCount l) in
+    let eh : out₁ ≡ written head out = eo ∙ rw (ec, freshly) in
+    let whole = whole-behind head out eh refl in
+    let put : ys ≡ written (run (nextBox l) plain) (drop 4 out) = ey ∙ rw (whole, keyed) in
+    let settled : last ≡ withBox (renewed l key (nextCount l)) (keptBox l (after (nextBox l) plain)) false = el ∙ rw (ek, keyed, is) in
+    rw (← e, z, settled, em) (refl, behind-put head (run (nextBox l) plain) out eh put refl)
+
+-- a refused open
+open-refusal : {r : Outcome} {code : ℕ} (result wait : Result) (code′ : ℕ) (l : Link) (out : List ℕ) → code ≡ code′ → (code ≡ done → ⊥) → (code ≡ waiting → ⊥)
+    → r ≡ refusal code l [] .outcome → Gives r out (onDone code′ result (pick (eqb code′ waiting) wait (refusal code′ l out)))
+open-refusal result wait code′ l out e h h′ er =
+    rw (ne-eqb code′ waiting (λ z. h′ (e ∙ z))) (refused-is result code′ l out e h er)
 
 -- a packet refused by its shape or for its record
 pub open-refused : {code : ℕ} {r : Outcome} (limit far : ℕ) (l : Link) (packet out : List ℕ) → code ≡ frontCode limit l packet → (code ≡ done → ⊥)
@@ -204,8 +368,9 @@ pub open-refused : {code : ℕ} {r : Outcome} (limit far : ℕ) (l : Link) (pack
 unfolding openResult openCode frontCode
 open-refused limit far l packet out e h er =
     let h′ : ℕ = headerIn packet in
-    let stop = rows-stop (frontRows limit l packet) (headerRows far l h′ ++ dataRows l h′ (dataIn packet) (length out)) λ z. h (e ∙ z) in
-    refused-is _ (openCode limit far l packet (length out)) l out (unfold openCode in e ∙ sym stop) h er
+    let rows : List (ℕ × Bool) = frontRows limit l packet in
+    let stop = rows-stop rows (headerRows far l h′ ++ dataRows l h′ (dataIn packet) (length out)) λ z. h (e ∙ z) in
+    open-refusal _ (waited l h′ out) (openCode limit far l packet (length out)) l out (unfold openCode in e ∙ sym stop) h (λ z. never waiting rows refl refl (sym e ∙ z)) er
 
 -- a record and a packet that these rows let pass
 pub front-passed : {code : ℕ} (limit : ℕ) (l : Link) (packet : List ℕ) → code ≡ frontCode limit l packet → code ≡ done
@@ -238,75 +403,126 @@ open-passed limit far l packet out e z eh made =
     rw pass (rw (eh, data-part packet) at made)
 
 -- data refused by a row before the last
-pub data-refused : {code away : ℕ} {r : Outcome} (far : ℕ) (l : Link) (h : ℕ) (text out : List ℕ) → away ≡ changesFor l h
-    → code ≡ headerCode far h away (length text) (length out) → (code ≡ done → ⊥) → r ≡ refusal code l [] .outcome → Gives r out (dataResult far l h text out)
+pub data-refused : {code away : ℕ} {r : Outcome} (far : ℕ) (l : Link) (h : ℕ) (text out : List ℕ) → away ≡ awayFor l h
+    → code ≡ headerCode far (l .mode) (l .waiting) h away (length text) (length out) → (code ≡ waiting → ⊥) → (code ≡ done → ⊥)
+    → r ≡ refusal code l [] .outcome → Gives r out (dataResult far l h text out)
 unfolding dataResult headerCode
-data-refused {code} far l h text out ef e some er =
-    let rows : List (ℕ × Bool) = roomRows far h (changesFor l h) (length text) (length out) in
+data-refused {code} far l h text out ef e here some er =
+    let rows : List (ℕ × Bool) = roomRows far (l .mode) (l .waiting) h (awayFor l h) (length text) (length out) in
     let last : List (ℕ × Bool) = (protocol, offProtocol (plainFor l h text)) ∷ [] in
     let e′ : code ≡ firstOf rows = e ∙ rw ef in
-    refused-is _ (firstOf (rows ++ last)) l out (e′ ∙ sym (rows-stop rows last λ z. some (e′ ∙ z))) some er
+    open-refusal _ (waited l h out) (firstOf (rows ++ last)) l out (e′ ∙ sym (rows-stop rows last λ z. some (e′ ∙ z))) some here er
 
--- data that these rows let pass: the key is changed, there is room, and the last row decides
-pub data-passed : {code : ℕ} (far away : ℕ) (l : Link) (h : ℕ) (text : List ℕ) (lent : ℕ) → code ≡ headerCode far h away (length text) lent → code ≡ done
-    → (away ≡ 0 → ⊥) × (length text ≤ lent)
-    × (away ≡ changesFor l h → firstOf (headerRows far l h ++ dataRows l h text lent) ≡ firstOf ((protocol, offProtocol (plainFor l h text)) ∷ []))
+-- data that these rows let pass: there is room, and the last row decides
+pub data-passed : {code : ℕ} (far away : ℕ) (l : Link) (h : ℕ) (text : List ℕ) (lent : ℕ) → code ≡ headerCode far (l .mode) (l .waiting) h away (length text) lent
+    → code ≡ done → away ≡ awayFor l h
+    → (length text ≤ lent) × (firstOf (headerRows far l h ++ dataRows l h text lent) ≡ firstOf ((protocol, offProtocol (plainFor l h text)) ∷ []))
 unfolding headerCode
-data-passed far away l h text lent e z =
-    let rows : List (ℕ × Bool) = roomRows far h away (length text) lent in
+data-passed far away l h text lent e z ef =
+    let rows : List (ℕ × Bool) = roomRows far (l .mode) (l .waiting) h (awayFor l h) (length text) lent in
     let last : List (ℕ × Bool) = (protocol, offProtocol (plainFor l h text)) ∷ [] in
-    let zero = sym e ∙ z in
-    (eqb-false away 0 (clear repeat rows refl zero .0), ltb-false lent (length text) (clear room rows refl zero .0), λ ef. rw (← ef) (rows-pass rows last refl zero))
+    let zero : firstOf rows ≡ done = rw ef at (sym e ∙ z) in
+    (ltb-false lent (length text) (clear room rows refl zero .0), rows-pass rows last refl zero)
 
--- a key that is changed at least once has its strength's octets
-changed-length : (s : Strength) (start session : List ℕ) (n : ℕ) → (n ≡ 0 → ⊥) → length (changes s start n session) ≡ keyLength s
-unfolding changes
-changed-length s start session zero h = absurd (h refl)
-changed-length s start session (suc n) h = keyChange-length s start (changes s start n session)
+-- what code works out of a header: its distance, the key changes, and the record with them made
+abbrev pub Worked : Link → (h away made : ℕ) → Link → Type 0
+Worked l h away made next =
+    (away ≡ awayFor l h)
+    × (made ≡ changesOver (l .mode) (l .count) away)
+    × (next ≡ renewed l (changes (l .strength) (startKeyIn l) made (sessionKeyIn l)) (countOf h))
 
--- what code works out of a header: the record after it, and its cipher
-abbrev pub Worked : Link → ℕ → ℕ → Link → Rc4 → Type 0
-Worked l h away next cipher =
-    (away ≡ changesFor l h)
-    × (next ≡ renewed l (changes (l .strength) (startKeyIn l) away (sessionKeyIn l)) (countOf h))
-    × (cipher ≡ keySchedule (sessionKeyIn next))
-
-worked-is : {next : Link} {cipher : Rc4} (away : ℕ) (l : Link) (h : ℕ) → Worked l h away next cipher → (away ≡ 0 → ⊥)
-    → (next ≡ linkAfter l h) × (cipher ≡ keySchedule (keyFor l h))
+worked-is : {next : Link} (away made : ℕ) (l : Link) (h : ℕ) → length (l .session) ≡ 16 → Worked l h away made next
+    → (made ≡ changesFor l h) × (next ≡ renewed l (keyFor l h) (countOf h)) × (sessionKeyIn next ≡ keyFor l h)
 unfolding keyFor
-worked-is {next} away l h (ef, en, ec) new =
-    let is : next ≡ linkAfter l h = unfold keyFor in en ∙ rw ef in
-    let long = changed-length (l .strength) (startKeyIn l) (sessionKeyIn l) (changesFor l h) λ z. new (ef ∙ z) in
-    (is, ec ∙ rw (is, key-back (l .strength) (keyFor l h) long))
+worked-is {next} away made l h full (ef, em, en) =
+    let made-is : made ≡ changesFor l h = em ∙ rw ef in
+    let is : next ≡ renewed l (keyFor l h) (countOf h) = unfold keyFor in en ∙ rw made-is in
+    (made-is, is, ap sessionKeyIn is ∙ unfold keyFor in changed-back l (changesFor l h) full)
 
--- what it deciphers
-deciphered : {cipher : Rc4} (l : Link) (h : ℕ) (text : List ℕ) → cipher ≡ keySchedule (keyFor l h) → run cipher text ≡ plainFor l h text
-unfolding plainFor
-deciphered l h text keyed = ap (λ (s : Rc4). run s text) keyed
+-- the box that it deciphers with
+cipher-for : (lacksA : Bool) (made : ℕ) (keyed held : Rc4) → pick (not (eqb made 0) || not lacksA) keyed held ≡ pick lacksA (onDone made held keyed) keyed
+cipher-for true zero keyed held = refl
+cipher-for true (suc n) keyed held = rw (ne-eqb (suc n) 0 (suc-ne-zero n))
+cipher-for false zero keyed held = refl
+cipher-for false (suc n) keyed held = rw (ne-eqb (suc n) 0 (suc-ne-zero n))
+
+abbrev pub Keyed : (h made : ℕ) (next : Link) (lacksA fresh : Bool) (cipher : Rc4) → Type 0
+Keyed h made next lacksA fresh cipher =
+    (lacksA ≡ lacks bitA h) × (fresh ≡ (not (eqb made 0) || not lacksA)) × (cipher ≡ pick fresh (keySchedule (sessionKeyIn next)) (next .state))
+
+deciphers : {next : Link} {lacksA fresh : Bool} {cipher : Rc4} (away made : ℕ) (l : Link) (h : ℕ) → length (l .session) ≡ 16 → Worked l h away made next
+    → Keyed h made next lacksA fresh cipher → cipher ≡ stateFor l h
+unfolding stateFor boxFor
+deciphers {next} away made l h full work (ea, ef, ec) =
+    let (made-is, is, kept) = worked-is away made l h full work in
+    let state : next .state ≡ l .state = ap (λ (m : Link). m .state) is in
+    ec ∙ rw (ef, ea, kept, state, made-is) (cipher-for (lacks bitA h) (changesFor l h) (keySchedule (keyFor l h)) (l .state))
+
+-- data that are waited for
+pub data-waits : {code away made : ℕ} {next : Link} {r : Outcome} (far : ℕ) (l : Link) (h : ℕ) (text out : List ℕ) → length (l .session) ≡ 16
+    → code ≡ headerCode far (l .mode) (l .waiting) h away (length text) (length out) → code ≡ waiting → Worked l h away made next
+    → r ≡ waitedOn next made → Gives r out (dataResult far l h text out)
+unfolding dataResult headerCode waitedOn boxFor
+data-waits {code} {away} {made} {next} far l h text out full e z work er =
+    let rows : List (ℕ × Bool) = roomRows far (l .mode) (l .waiting) h (awayFor l h) (length text) (length out) in
+    let last : List (ℕ × Bool) = (protocol, offProtocol (plainFor l h text)) ∷ [] in
+    let e′ : firstOf rows ≡ waiting = rw (work .0) at (sym e ∙ z) in
+    let code′ : firstOf (rows ++ last) ≡ waiting = rows-stop rows last (λ q. omega (arith, q, e′)) ∙ e′ in
+    let (made-is, is, kept) = worked-is away made l h full work in
+    let state : next .state ≡ l .state = ap (λ (m : Link). m .state) is in
+    rw code′ (er ∙ rw (kept, state, made-is, is), refl)
 
 -- data refused by the last row
-pub data-off : {code away : ℕ} {next : Link} {cipher : Rc4} {off : Bool} {r : Outcome} (far : ℕ) (l : Link) (h : ℕ) (text out : List ℕ)
-    → code ≡ headerCode far h away (length text) (length out) → code ≡ done → Worked l h away next cipher
-    → off ≡ offProtocol (run cipher text) → off ≡ true → r ≡ refusal protocol l [] .outcome → Gives r out (dataResult far l h text out)
-unfolding dataResult
-data-off {code} {away} far l h text out e z made eo t er =
-    let (new, fits, last) = data-passed far away l h text (length out) e z in
-    let (is, keyed) = worked-is away l h made new in
-    let off : offProtocol (plainFor l h text) ≡ true = ap offProtocol (sym (deciphered l h text keyed)) ∙ sym eo ∙ t in
-    let code : protocol ≡ firstOf (headerRows far l h ++ dataRows l h text (length out)) = sym (last (made .0) ∙ rw off) in
-    refused-is _ (firstOf (headerRows far l h ++ dataRows l h text (length out))) l out code (λ q. omega (arith, q)) er
+pub data-off : {code away made : ℕ} {next : Link} {lacksA fresh : Bool} {cipher : Rc4} {off : Bool} {r : Outcome} (far : ℕ) (l : Link) (h : ℕ) (text out : List ℕ)
+    → length (l .session) ≡ 16 → code ≡ headerCode far (l .mode) (l .waiting) h away (length text) (length out) → code ≡ done → Worked l h away made next
+    → Keyed h made next lacksA fresh cipher → off ≡ offProtocol (run cipher text) → off ≡ true → r ≡ refusal protocol l [] .outcome
+    → Gives r out (dataResult far l h text out)
+unfolding dataResult plainFor
+data-off {code} {away} {made} far l h text out full e z work keyed eo t er =
+    let (fits, last) = data-passed far away l h text (length out) e z (work .0) in
+    let box = deciphers away made l h full work keyed in
+    let off : offProtocol (plainFor l h text) ≡ true = unfold plainFor in ap (λ (s : Rc4). offProtocol (run s text)) (sym box) ∙ sym eo ∙ t in
+    let code : protocol ≡ firstOf (headerRows far l h ++ dataRows l h text (length out)) = sym (last ∙ rw off) in
+    open-refusal _ (waited l h out) (firstOf (headerRows far l h ++ dataRows l h text (length out))) l out code (λ q. omega (arith, q)) (λ q. omega (arith, q)) er
 
 -- data that are opened
-pub data-opened : {code away : ℕ} {next : Link} {cipher : Rc4} {off : Bool} {out₁ : List ℕ} (far : ℕ) (l : Link) (h : ℕ) (text out : List ℕ)
-    → code ≡ headerCode far h away (length text) (length out) → code ≡ done → Worked l h away next cipher
-    → off ≡ offProtocol (run cipher text) → off ≡ false → out₁ ≡ runOut cipher text out → length text ≤ longestPlain
-    → Gives (record { answer = done; changes = away; link = next }) out₁ (dataResult far l h text out)
-unfolding dataResult
-data-opened {code} {away} {next} {cipher} {off} {out₁} far l h text out e z made eo t er small =
-    let (new, fits, last) = data-passed far away l h text (length out) e z in
-    let (is, keyed) = worked-is away l h made new in
-    let plain = deciphered l h text keyed in
-    let off : offProtocol (plainFor l h text) ≡ false = ap offProtocol (sym plain) ∙ sym eo ∙ t in
-    let code : firstOf (headerRows far l h ++ dataRows l h text (length out)) ≡ done = last (made .0) ∙ rw off in
-    let ran : out₁ ≡ written (plainFor l h text) out = er ∙ run-done cipher text out (omega arith) fits .1 ∙ ap (λ (p : List ℕ). written p out) plain in
-    rw (code, is, made .0) (refl, ran)
+pub data-opened : {code away made : ℕ} {next after′ : Link} {lacksA fresh : Bool} {cipher : Rc4} {off : Bool} {ran : Ran} {out₁ : List ℕ} (far : ℕ) (l : Link) (h : ℕ) (text out : List ℕ)
+    → length (l .session) ≡ 16 → code ≡ headerCode far (l .mode) (l .waiting) h away (length text) (length out) → code ≡ done → Worked l h away made next
+    → Keyed h made next lacksA fresh cipher → off ≡ offProtocol (run cipher text) → off ≡ false → (ran ≡ runAnswer cipher text out) × (out₁ ≡ runOut cipher text out)
+    → length text ≤ longestPlain → after′ ≡ settledOn next (ran .state)
+    → Gives (record { answer = done; changes = made; link = after′ }) out₁ (dataResult far l h text out)
+unfolding dataResult plainFor
+data-opened {code} {away} {made} {next} {after′} {lacksA} {fresh} {cipher} {off} {ran} {out₁} far l h text out full e z work keyed eo t (er, eu) small el =
+    let (fits, last) = data-passed far away l h text (length out) e z (work .0) in
+    let (made-is, is, kept) = worked-is away made l h full work in
+    let box = deciphers away made l h full work keyed in
+    let off : offProtocol (plainFor l h text) ≡ false = unfold plainFor in ap (λ (s : Rc4). offProtocol (run s text)) (sym box) ∙ sym eo ∙ t in
+    let code : firstOf (headerRows far l h ++ dataRows l h text (length out)) ≡ done = last ∙ rw off in
+    let (state-is, run-is) = run-done (stateFor l h) text out (omega arith) fits in
+    let ran-is : ran ≡ record { answer = done; state = after (stateFor l h) text } = er ∙ rw box state-is in
+    let left : ran .state ≡ after (stateFor l h) text = ap (λ (r : Ran). r .state) ran-is in
+    let settled : after′ ≡ linkAfter l h text = el ∙ rw (is, left) in
+    rw (code, settled, made-is) (refl, eu ∙ rw box run-is)
+
+-- a Reset-Request: a record that is not well formed, octets that are none, and one that is taken
+pub reset-ill : {r : Outcome} (l : Link) (request : List ℕ) → wellFormed l ≡ false → r ≡ refusal notRecord l [] .outcome → r ≡ resetOutcome l request
+unfolding resetOutcome resetCode
+reset-ill l request h er = rw h er
+
+pub reset-none : {r : Outcome} {read : Reset} (l : Link) (request : List ℕ) → wellFormed l ≡ true → read ≡ resetAnswer request → (read .answer ≡ done → ⊥)
+    → r ≡ refusal shape l [] .outcome → r ≡ resetOutcome l request
+unfolding resetOutcome resetCode
+reset-none l request h e some er = rw (h, reset-shape request (λ z. some (ap (λ (x : Reset). x .answer) e ∙ z))) er
+
+pub reset-taken : {read : Reset} {mark : Bool} {l′ : Link} (l : Link) (request : List ℕ) → wellFormed l ≡ true → read ≡ resetAnswer request → read .answer ≡ done
+    → mark ≡ byMode (l .mode) false true → l′ ≡ withBox l (l .state) mark → record { answer = done; changes = 0; link = l′ } ≡ resetOutcome l request
+unfolding resetOutcome resetCode
+reset-taken l request h e z em el =
+    let rows : firstOf (resetRows request) ≡ done = reset-done request (sym (ap (λ (x : Reset). x .answer) e) ∙ z) in
+    rw (h, rows, el, em) (by (l .mode) (l .waiting) (λ m. fits-unmarked (l .mode) (l .state) (l .waiting) m (well-box l h)))
+  where
+    by : (mode : Mode) (mark : Bool) → (mode ≡ Stateless → mark ≡ false)
+        → _≡_ {A = Outcome} (record { answer = done; changes = 0; link = withBox l (l .state) (byMode mode false true) })
+        (record { answer = done; changes = 0; link = withBox l (l .state) (byMode mode mark true) })
+    by Stateless mark e = rw (e refl)
+    by Stateful mark e = refl

@@ -9,6 +9,7 @@ use lib.Dec.{lit≤}
 use lib.ListN.{length, replicate}
 use Rattle.answer.specs.Answer.{done}
 use Rattle.mppe_keys.specs.declared.Strength.{Strength}
+use Rattle.mppe_keys.specs.declared.Mode.the-variants.{Stateless}
 use Rattle.mppe.specs.Link.{longestPlain, farthest, newLink, Result}
 use Rattle.mppe.specs.Run.{mostLost, SealCall, OpenCall, arrival, Packet, History, first, beginning, saidCode, packetOf, onward, packets, numbered, openRun, Meets, due, Demand3}
 use Rattle.mppe.specs.Demand3.{demand-3-base}
@@ -73,7 +74,7 @@ module _ (s : Strength) (start : List ℕ) where
   reported r = r .outcome .changes
 
   -- all arrivals are as far as may be
-  pub run-opens : newLink s start .answer ≡ done → (n : ℕ) → wrapped < n
+  pub run-opens : newLink s Stateless start .answer ≡ done → (n : ℕ) → wrapped < n
       → map reported (openRun longestPlain farthest (first s start) (opens (sealed n))) ≡ farthest ∷ farthest ∷ farthest ∷ []
   unfolding Demand3 due
   run-opens ok n h = ap (map reported) (demand-3-base s start ok (calls n) (opens (sealed n)) (meets n h) .1)

@@ -10,17 +10,19 @@ use native.Mathlib.Omega.{arith}
 use lib.Dec.{eqb, ltb, lit<}
 use lib.ListN.{length}
 use borrow.Author.Tests.{lt-ltb, le-ltb, eq-eqb, ne-eqb}
-use Rattle.answer.specs.Answer.{done, size, protocol, repeat, late, outside, firstOf, onDone, wrong}
+use Rattle.answer.specs.Answer.{done, size, protocol, repeat, late, waiting, outside, firstOf, onDone, wrong}
 use Rattle.answer.specs.Laws.{clear, rows-pass, not-done, right, right-length}
 use Rattle.octets.specs.Octets.{written}
-use Rattle.rc4.specs.Cipher.{keySchedule}
+use Rattle.rc4.specs.declared.Rc4.{Rc4}
+use Rattle.rc4.specs.Cipher.{unkeyed, keySchedule, after}
 use Rattle.rc4.specs.Laws.{run-length, run-twice}
 use Rattle.mppe_keys.specs.declared.Strength.{Strength}
+use Rattle.mppe_keys.specs.declared.Mode.the-variants.{Stateless}
 use Rattle.mppe_keys.specs.Keys.{keyLength, initialKey, keyChange, changes, rc4}
 use Rattle.mppe_keys.specs.Laws.{initialKey-length, initialKey-head, changes-length, changes-head, changes-add}
 use Rattle.mppe.specs.declared.Link.{Link}
-use Rattle.mppe.specs.Link.{shortestPlain, longestPlain, counts, newCount, farthest, wellFormed, startKeyIn, sessionKeyIn, renewed, nextKey, nextCount, linkOf, newLink, newLinkCode, offProtocol, bitA, bitD, sealedPacket, headerIn, dataIn, distance, Result, finished, refusal, plainRows, sealCode, sealResult, changesFor, keyFor, plainFor, frontRows, headerRows, dataRows, openCode, openResult}
-use Rattle.mppe.specs.Laws.{key-back, well, front-none, sealed-header, header-count, header-A, header-D, distance-is, distance-none, distance-behind}
+use Rattle.mppe.specs.Link.{shortestPlain, longestPlain, counts, newCount, farthest, wellFormed, startKeyIn, sessionKeyIn, renewed, nextKey, nextCount, linkOf, newLink, newLinkCode, offProtocol, sealedPacket, packetOn, headerIn, dataIn, distance, Result, finished, refusal, plainRows, sealCode, nextChanges, keysAfresh, nextBox, keptBox, withBox, countOf, sealResult, changesOver, awayFor, changesFor, keyFor, stateFor, plainFor, frontRows, headerRows, dataRows, openCode, openResult}
+use Rattle.mppe.specs.Laws.{key-back, well, unkeyed-fits, headerOf, no-waiting, front-none, sealed-header, header-count, header-A, header-D, distance-is, distance-none, distance-behind}
 use Rattle.mppe.specs.Run.{mostLost, SealCall, OpenCall, arrival, other, Packet, History, sealRun, openRun, saidCode, first, beginning, packetOf, onward, packets, said, numbered, Meets, due, Demand3}
 
 -- a packet that may be sealed: its plain packet is within the limit and has a protocol number that is carried
@@ -29,9 +31,12 @@ Sealable limit plain = (outside shortestPlain limit (length plain) ≡ false) ×
 
 -- a call that the table refuses
 pub open-other : (limit far : ℕ) (l : Link) (packet lent : List ℕ) → openCode limit far l packet (length lent) ≢ done
+    → openCode limit far l packet (length lent) ≢ waiting
     → openResult limit far l packet lent ≡ refusal (openCode limit far l packet (length lent)) l lent
 unfolding openResult
-open-other limit far l packet lent not0 = not-done (openCode limit far l packet (length lent)) _ (refusal (openCode limit far l packet (length lent)) l lent) not0
+open-other limit far l packet lent not0 not11 =
+    let code : ℕ = openCode limit far l packet (length lent) in
+    rw (ne-eqb code waiting not11) (not-done code _ (refusal code l lent) not0)
 
 module _ (s : Strength) (start : List ℕ) where
   -- both ends as they are when m packets are sealed: the session key, the record, the history
@@ -39,7 +44,7 @@ module _ (s : Strength) (start : List ℕ) where
   keyAt m = changes s start m (initialKey s start)
 
   unfoldable pub recordAt : ℕ → Link
-  recordAt m = linkOf s start (keyAt m) ((m + newCount) % counts)
+  recordAt m = linkOf s Stateless start (keyAt m) ((m + newCount) % counts) unkeyed false
 
   unfoldable pub historyAt : ℕ → History
   historyAt m = record { number = m; session = keyAt m }
@@ -50,7 +55,7 @@ module _ (s : Strength) (start : List ℕ) where
       record { plain = plain; octets = sealedPacket (keyAt (suc q)) (q % counts) plain; link = recordAt (suc q) }
 
   -- a start key that is not refused has its strength's octets ..
-  pub start-length : newLink s start .answer ≡ done → length start ≡ keyLength s
+  pub start-length : newLink s Stateless start .answer ≡ done → length start ≡ keyLength s
   unfolding newLink
   start-length h = right-length (keyLength s) start (clear size ((size, wrong (keyLength s) start) ∷ []) refl h .0)
 
@@ -69,14 +74,14 @@ module _ (s : Strength) (start : List ℕ) where
     well-at m =
         let long = changes-length s start m (initialKey s start) (initialKey-length s start) in
         let head = changes-head s start m (initialKey s start) (initialKey-head s start) in
-        well s start (keyAt m) ((m + newCount) % counts) h long head (omega arith)
+        well s Stateless start (keyAt m) ((m + newCount) % counts) unkeyed false h long head (omega arith) (unkeyed-fits Stateless)
 
     -- what the history says next, in terms of m
     pub key-next : (m : ℕ) → keyChange s start (keyAt m) ≡ keyAt (suc m)
     unfolding keyAt changes
     key-next m = refl
 
-    pub record-next : (m : ℕ) → linkOf s start (keyAt (suc m)) (m % counts) ≡ recordAt (suc m)
+    pub record-next : (m : ℕ) → linkOf s Stateless start (keyAt (suc m)) (m % counts) unkeyed false ≡ recordAt (suc m)
     unfolding recordAt
     record-next m =
         let same : m % counts ≡ (suc m + newCount) % counts = omega arith in
@@ -96,25 +101,42 @@ module _ (s : Strength) (start : List ℕ) where
     unfolding recordAt keyAt
     session-in m = key-back s (keyAt m) (changes-length s start m (initialKey s start) (initialKey-length s start))
 
-    renewed-at : (m q : ℕ) → renewed (recordAt m) (keyAt (suc q)) (q % counts) ≡ recordAt (suc q)
-    unfolding recordAt
-    renewed-at m q = record-next q
-
     nextKey-at : (m : ℕ) → nextKey (recordAt m) ≡ keyAt (suc m)
-    unfolding recordAt
-    nextKey-at m = rw (start-in m, session-in m, key-next m)
+    unfolding nextKey recordAt changesOver
+    nextKey-at m = rw (start-in m, session-in m) (unfold changes in key-next m)
 
     nextCount-at : (m : ℕ) → nextCount (recordAt m) ≡ m % counts
     unfolding recordAt
     nextCount-at m = omega arith
 
+    -- what the next packet is, and the record after it
+    sealed-at : (m : ℕ) (plain : List ℕ)
+        → packetOn (keysAfresh (recordAt m)) (nextBox (recordAt m)) (nextCount (recordAt m)) plain ≡ sealedPacket (keyAt (suc m)) (m % counts) plain
+    unfolding nextBox
+    sealed-at m plain =
+        let fresh : keysAfresh (recordAt m) ≡ true = unfold recordAt changesOver in refl in
+        rw (fresh, nextKey-at m, nextCount-at m)
+
+    settled-at : (m : ℕ) (left : Rc4)
+        → withBox (renewed (recordAt m) (nextKey (recordAt m)) (nextCount (recordAt m))) (keptBox (recordAt m) left) false ≡ recordAt (suc m)
+    settled-at m left =
+        rw (nextKey-at m, nextCount-at m) (unfold recordAt in record-next m)
+
+    made-at : (m : ℕ) → nextChanges (recordAt m) ≡ 1
+    unfolding recordAt changesOver
+    made-at m = refl
+
     -- what the receiver makes of packet q's header when the last that it opened is the one before `next`
     abbrev headerAt : ℕ → ℕ
-    headerAt q = bitA + bitD + q % counts
+    headerAt q = headerOf true (q % counts)
 
     changes-at : (next q : ℕ) → changesFor (recordAt next) (headerAt q) ≡ distance ((next + newCount) % counts) (q % counts)
-    unfolding recordAt
-    changes-at next q = rw (header-count (q % counts) (omega arith))
+    unfolding recordAt changesOver
+    changes-at next q = rw (header-count true (q % counts) (omega arith))
+
+    away-at : (next q : ℕ) → awayFor (recordAt next) (headerAt q) ≡ changesFor (recordAt next) (headerAt q)
+    unfolding recordAt changesOver
+    away-at next q = refl
 
     key-at : (next q : ℕ) → changesFor (recordAt next) (headerAt q) ≡ suc (q - next) → next ≤ q → keyFor (recordAt next) (headerAt q) ≡ keyAt (suc q)
     unfolding keyFor recordAt
@@ -137,7 +159,7 @@ module _ (s : Strength) (start : List ℕ) where
           ≡ onDone (saidCode limit c) (finished 1 (recordAt (suc m)) (written (packetAt m (c .plain) .octets) (c .room)))
           (refusal (saidCode limit c) (recordAt m) (c .room))
       unfolding sealResult packetAt
-      seal-next m c = rw (seal-code m c, nextKey-at m, nextCount-at m, renewed-at m m)
+      seal-next m c = rw (seal-code m c, settled-at m (after (nextBox (recordAt m)) (c .plain)), sealed-at m (c .plain), made-at m)
 
       -- the history moves on with the records
       history-next : (m : ℕ) (c : SealCall)
@@ -206,33 +228,44 @@ module _ (s : Strength) (start : List ℕ) where
       -- a packet on the line: its header, its data, and the rows that it passes whatever was opened last
       line-header : (q : ℕ) (plain : List ℕ) → headerIn (packetAt q plain .octets) ≡ headerAt q
       unfolding packetAt
-      line-header q plain = sealed-header (keyAt (suc q)) (q % counts) plain (omega arith)
+      line-header q plain = sealed-header true (keySchedule (keyAt (suc q))) (q % counts) plain (omega arith)
 
       line-data : (q : ℕ) (plain : List ℕ) → dataIn (packetAt q plain .octets) ≡ rc4 (keyAt (suc q)) plain
-      unfolding packetAt sealedPacket
+      unfolding packetAt packetOn
       line-data q plain = refl
 
       line-front : (m q : ℕ) (plain : List ℕ) → Sealable limit plain → firstOf (frontRows limit (recordAt m) (packetAt q plain .octets)) ≡ done
-      unfolding packetAt sealedPacket
+      unfolding packetAt packetOn
       line-front m q plain can =
-          front-none limit (recordAt m) (q % counts) (rc4 (keyAt (suc q)) plain) (well-at m) (rw (run-length (keySchedule (keyAt (suc q))) plain) (can .0))
+          front-none limit (recordAt m) true (q % counts) (rc4 (keyAt (suc q)) plain) (well-at m) (rw (run-length (keySchedule (keyAt (suc q))) plain) (can .0))
 
       -- and `far` the farthest distance that is opened
       module _ (far : ℕ) where
         line-code : (m q : ℕ) (plain : List ℕ) (lent : ℕ) → Sealable limit plain
             → openCode limit far (recordAt m) (packetAt q plain .octets) lent
             ≡ firstOf
-            ((repeat, eqb (changesFor (recordAt m) (headerAt q)) 0)
-            ∷ (late, ltb far (changesFor (recordAt m) (headerAt q)))
+            ((repeat, eqb (awayFor (recordAt m) (headerAt q)) 0)
+            ∷ (late, ltb far (awayFor (recordAt m) (headerAt q)))
             ∷ dataRows (recordAt m) (headerAt q) (rc4 (keyAt (suc q)) plain) lent)
-        unfolding openCode
+        unfolding openCode recordAt
         line-code m q plain lent can =
             let packet : List ℕ = packetAt q plain .octets in
             let h : ℕ = headerIn packet in
             rows-pass (frontRows limit (recordAt m) packet) (headerRows far (recordAt m) h ++ dataRows (recordAt m) h (dataIn packet) lent) refl (line-front m q plain can)
-            ∙ rw (line-header q plain, line-data q plain, header-A (q % counts) (omega arith), header-D (q % counts) (omega arith))
+            ∙ rw (line-header q plain, line-data q plain, header-A true (q % counts) (omega arith), header-D true (q % counts) (omega arith))
 
         -- an arrival opens as is due
+        -- what it opens to, and what it leaves
+        plain-at : (next q : ℕ) (plain : List ℕ) → keyFor (recordAt next) (headerAt q) ≡ keyAt (suc q)
+            → plainFor (recordAt next) (headerAt q) (rc4 (keyAt (suc q)) plain) ≡ plain
+        unfolding plainFor stateFor
+        plain-at next q plain key = rw (header-A true (q % counts) (omega arith), key) (run-twice (keySchedule (keyAt (suc q))) plain)
+
+        opened-at : (next q : ℕ) (left : Rc4) → keyFor (recordAt next) (headerAt q) ≡ keyAt (suc q)
+            → withBox (renewed (recordAt next) (keyFor (recordAt next) (headerAt q)) (countOf (headerAt q))) (keptBox (recordAt next) left) false ≡ recordAt (suc q)
+        opened-at next q left key =
+            rw (key, header-count true (q % counts) (omega arith)) (unfold recordAt in record-next q)
+
         pub open-arrival : (next q : ℕ) (plain lent : List ℕ) → far < counts → Sealable limit plain → next ≤ q → q - next < far → length plain ≤ length lent
             → openResult limit far (recordAt next) (packetAt q plain .octets) lent
             ≡ finished (suc (q - next)) (recordAt (suc q)) (written plain lent)
@@ -242,30 +275,30 @@ module _ (s : Strength) (start : List ℕ) where
             let long : length text ≡ length plain = run-length (keySchedule (keyAt (suc q))) plain in
             let made : changesFor (recordAt next) (headerAt q) ≡ suc (q - next) = rw (changes-at next q) (distance-is next q low (omega arith)) in
             let key = key-at next q made low in
-            let opened : plainFor (recordAt next) (headerAt q) text ≡ plain =
-            unfold plainFor in rw key (run-twice (keySchedule (keyAt (suc q))) plain) in
-            let new : eqb (changesFor (recordAt next) (headerAt q)) 0 ≡ false =
-            ne-eqb (changesFor (recordAt next) (headerAt q)) 0 (λ z. omega (arith, made, z)) in
-            let close : ltb far (changesFor (recordAt next) (headerAt q)) ≡ false =
-            le-ltb far (changesFor (recordAt next) (headerAt q)) (omega (arith, made)) in
+            let opened = plain-at next q plain key in
+            let away : awayFor (recordAt next) (headerAt q) ≡ suc (q - next) = away-at next q ∙ made in
+            let new : eqb (awayFor (recordAt next) (headerAt q)) 0 ≡ false =
+            ne-eqb (awayFor (recordAt next) (headerAt q)) 0 (λ z. omega (arith, away, z)) in
+            let close : ltb far (awayFor (recordAt next) (headerAt q)) ≡ false =
+            le-ltb far (awayFor (recordAt next) (headerAt q)) (omega (arith, away)) in
             let roomy : ltb (length lent) (length text) ≡ false = le-ltb (length lent) (length text) (omega (arith, long)) in
             let carried : offProtocol (plainFor (recordAt next) (headerAt q) text) ≡ false = rw opened (can .1) in
             let code : openCode limit far (recordAt next) (packetAt q plain .octets) (length lent) ≡ done =
             line-code next q plain (length lent) can ∙ rw (new, close, roomy, carried) in
-            rw (code, line-header q plain, line-data q plain, opened, made, key, header-count (q % counts) (omega arith), renewed-at next q)
+            rw (code, line-header q plain, line-data q plain, opened, made, opened-at next q (after (stateFor (recordAt next) (headerAt q)) text) key)
 
         -- the packet that was opened last is a repeat
         pub repeat-code : (q : ℕ) (plain : List ℕ) (lent : ℕ) → Sealable limit plain
             → openCode limit far (recordAt (suc q)) (packetAt q plain .octets) lent ≡ repeat
         repeat-code q plain lent can =
-            line-code (suc q) q plain lent can ∙ rw (eq-eqb (changesFor (recordAt (suc q)) (headerAt q)) 0 (changes-at (suc q) q ∙ distance-none q))
+            line-code (suc q) q plain lent can ∙ rw (eq-eqb (awayFor (recordAt (suc q)) (headerAt q)) 0 (away-at (suc q) q ∙ changes-at (suc q) q ∙ distance-none q))
 
         -- one that it has overtaken is late
         pub late-code : (next q : ℕ) (plain : List ℕ) (lent : ℕ) → Sealable limit plain → suc q < next → far + (next - suc q) < counts
             → openCode limit far (recordAt next) (packetAt q plain .octets) lent ≡ late
         late-code next q plain lent can low near =
-            let made = changes-at next q ∙ distance-behind next q low (omega arith) in
-            let away : ℕ = changesFor (recordAt next) (headerAt q) in
+            let made = away-at next q ∙ changes-at next q ∙ distance-behind next q low (omega arith) in
+            let away : ℕ = awayFor (recordAt next) (headerAt q) in
             line-code next q plain lent can
             ∙ rw (ne-eqb away 0 (λ z. omega (arith, made, z)), lt-ltb far away (omega (arith, made)))
 
@@ -287,7 +320,7 @@ module _ (s : Strength) (start : List ℕ) where
             (opens-all most ps (suc q) cs bound below all (subst (λ (l : Link). Meets limit far s start ps most (suc q) l cs) link rest)))
         opens-all most ps next (other octets lent ∷ cs) bound below all (not0, rest) =
             let r : Result = refusal (openCode limit far (recordAt next) octets (length lent)) (recordAt next) lent in
-            rw (open-other limit far (recordAt next) octets lent not0)
+            rw (open-other limit far (recordAt next) octets lent not0 (no-waiting limit far (recordAt next) octets (length lent) (unfold recordAt in refl)))
             (ap (λ (rs : List Result). r ∷ rs) (opens-all most ps next cs bound below all rest))
 
 -- demand 3 for every limit, every farthest distance and every number lost in a row below it

@@ -9,6 +9,7 @@ use lib.Dec.{lit≤, lit<}
 use lib.ListN.{length, replicate}
 use Rattle.answer.specs.Answer.{done, shape, size, repeat, late}
 use Rattle.mppe_keys.specs.declared.Strength.{Strength}
+use Rattle.mppe_keys.specs.declared.Mode.the-variants.{Stateless}
 use Rattle.mppe_keys.specs.Keys.{keyLength, changes}
 use Rattle.mppe.specs.declared.Link.{Link}
 use Rattle.mppe.specs.Link.{longestPlain, farthest, newLink, Result, finished, refusal, openCode}
@@ -116,7 +117,7 @@ module _ (s : Strength) (start : List ℕ) where
         (lit< tt, lit≤ tt, lit≤ tt, refl, long₁, ((λ z. omega (arith, again h, z)), ((λ z. omega (arith, overtaken h, z)), ((λ z. omega (arith, noise-next h, z)), third)))),
       )
 
-  pub meets : newLink s start .answer ≡ done → Meets longestPlain farthest s start sealed mostLost 0 (first s start) (opens sealed)
+  pub meets : newLink s Stateless start .answer ≡ done → Meets longestPlain farthest s start sealed mostLost 0 (first s start) (opens sealed)
   meets ok =
       let h = start-length s start ok in
       subst⁻¹ (λ (ps : List Packet). Meets longestPlain farthest s start ps mostLost 0 (first s start) (opens ps)) (sealed-four h) (meets-four h)
@@ -126,11 +127,11 @@ module _ (s : Strength) (start : List ℕ) where
   due-four h = rw (noise-first h, again h, overtaken h, noise-next h)
 
   -- the claim, of this run
-  pub run-seals : newLink s start .answer ≡ done → map answered (sealRun longestPlain (first s start) seals) ≡ done ∷ size ∷ done ∷ done ∷ done ∷ []
+  pub run-seals : newLink s Stateless start .answer ≡ done → map answered (sealRun longestPlain (first s start) seals) ≡ done ∷ size ∷ done ∷ done ∷ done ∷ []
   unfolding Demand3 said saidCode onward packetOf
   run-seals ok = ap (map answered) (demand-3-base s start ok seals (opens sealed) (meets ok) .0)
 
-  pub run-opens : newLink s start .answer ≡ done → openRun longestPlain farthest (first s start) (opens sealed) ≡ opened sealed
+  pub run-opens : newLink s Stateless start .answer ≡ done → openRun longestPlain farthest (first s start) (opens sealed) ≡ opened sealed
   unfolding Demand3
   run-opens ok =
       let h = start-length s start ok in

@@ -1,6 +1,6 @@
 -- What holds of records, packets and counts, once over the strengths.
-use mathlib.Core.Path.{_≡_, refl, ap}
-use mathlib.Core.Bool.{Bool, true, false}
+use mathlib.Core.Path.{_≡_, refl, sym, ap, _∙_}
+use mathlib.Core.Bool.{Bool, true, false, not, _&&_}
 use mathlib.Core.List.{List, [], _∷_, _++_}
 use Prim.Native.Nat.{ℕ, zero, suc, _+_, _-_, _/_, _%_, _<_, _≤_}
 use native.Mathlib.Nat.{suc-ne-zero}
@@ -8,13 +8,18 @@ use native.Mathlib.Omega.{arith}
 use lib.Dec.{eqb, ltb}
 use lib.ListN.{length, take, drop, getD, replicate}
 use lib.Seq.{take-append-seam, drop-append-seam}
-use borrow.Author.Tests.{lt-ltb, le-ltb, eq-eqb, ne-eqb, ltb-false}
-use Rattle.answer.specs.Answer.{done, repeat, late, outside, firstOf}
-use Rattle.answer.specs.Laws.{both, clear, within, outside-none}
+use borrow.Author.Tests.{lt-ltb, le-ltb, eq-eqb, ne-eqb, ltb-false, eqb-true, eqb-false, not-true}
+use Rattle.answer.specs.Answer.{done, flags, repeat, late, waiting, pick, outside, firstOf}
+use Rattle.answer.specs.Laws.{both, clear, never, rows-pass, rows-passed, within, outside-none}
+use Rattle.rc4.specs.declared.Rc4.{Rc4}
+use Rattle.rc4.specs.Cipher.{permutation, unkeyed, isUnkeyed}
+use Rattle.rc4.specs.Permutation.{unkeyed-found, unkeyed-permutation}
 use Rattle.mppe_keys.specs.declared.Strength.{Strength}
-use Rattle.mppe_keys.specs.Keys.{keyLength, headOf, begins, placed}
+use Rattle.mppe_keys.specs.declared.Mode.{Mode}
+use Rattle.mppe_keys.specs.declared.Mode.the-variants.{Stateless, Stateful}
+use Rattle.mppe_keys.specs.Keys.{keyLength, byMode, headOf, begins, placed}
 use Rattle.mppe.specs.declared.Link.{Link}
-use Rattle.mppe.specs.Link.{shortestPlain, front, counts, newCount, zeros, wellFormed, linkOf, bitA, bitD, header, sealedPacket, headerIn, countOf, lacks, dataIn, distance, changesFor, frontRows, openRows, openCode, openedBy, openResult}
+use Rattle.mppe.specs.Link.{shortestPlain, front, counts, newCount, zeros, boxFits, wellFormed, linkOf, bitA, bitD, header, packetOn, headerIn, countOf, lacks, dataIn, distance, endings, changesOver, awayFor, changesFor, frontRows, dataRows, refusal, waited, openRows, openCode, openedBy, openResult}
 
 -- zeros are zeros
 pub zeros-all : (n : ℕ) → zeros (replicate n 0) ≡ true
@@ -39,41 +44,89 @@ begins-front (x ∷ front) [] rest e = absurd (omega (arith, ap (λ (l : List �
 begins-front (x ∷ front) (y ∷ key) rest e =
     rw (eq-eqb y x (ap (λ (l : List ℕ). getD l 0 0) e), begins-front front key rest (ap (λ (l : List ℕ). drop 1 l) e))
 
--- a record of keys with the lengths of their strength, a session key that begins as reduce leaves it, and a count of 12 bits
-pub well : (s : Strength) (start session : List ℕ) (count : ℕ) → length start ≡ keyLength s → length session ≡ keyLength s
-    → take (length (headOf s)) session ≡ headOf s → count < counts → wellFormed (linkOf s start session count) ≡ true
+-- a record of keys with the lengths of their strength, a session key that begins as reduce leaves it, a count of 12 bits, and a box and a
+-- mark that its mode asks for
+pub well : (s : Strength) (mode : Mode) (start session : List ℕ) (count : ℕ) (state : Rc4) (mark : Bool) → length start ≡ keyLength s
+    → length session ≡ keyLength s → take (length (headOf s)) session ≡ headOf s → count < counts → boxFits mode state mark ≡ true
+    → wellFormed (linkOf s mode start session count state mark) ≡ true
 unfolding wellFormed
-well s start session count hs hk head h =
+well s mode start session count state mark hs hk head h fits =
     let b : begins (headOf s) (placed session) ≡ true = unfold placed in begins-front (headOf s) session (replicate (16 - length session) 0) head in
-    rw (lt-ltb count counts h, places-zero s start hs, places-zero s session hk, b)
+    rw (lt-ltb count counts h, places-zero s start hs, places-zero s session hk, b, fits)
+
+-- the box of a new link fits either mode
+pub unkeyed-fits : (mode : Mode) → boxFits mode unkeyed (byMode mode false true) ≡ true
+unfolding boxFits
+unkeyed-fits Stateless = rw (unkeyed-permutation unkeyed unkeyed-found, unkeyed-found)
+unkeyed-fits Stateful = rw (unkeyed-permutation unkeyed unkeyed-found)
+
+-- the box and the mark of a well-formed record, and the mark of a stateless one
+pub well-box : (l : Link) → wellFormed l ≡ true → boxFits (l .mode) (l .state) (l .waiting) ≡ true
+unfolding wellFormed
+well-box l h =
+    both (ltb (l .count) counts && zeros (drop (keyLength (l .strength)) (l .start)) && zeros (drop (keyLength (l .strength)) (l .session)) && begins (headOf (l .strength)) (l .session)) (boxFits (l .mode) (l .state) (l .waiting)) h .1
+
+pub fits-unmarked : (mode : Mode) (state : Rc4) (mark : Bool) → mode ≡ Stateless → boxFits mode state mark ≡ true → mark ≡ false
+unfolding boxFits
+fits-unmarked mode state mark em h =
+    let h′ : permutation (state .cells) && (isUnkeyed state && not mark) ≡ true = rw em at h in
+    not-true mark (both (isUnkeyed state) (not mark) (both (permutation (state .cells)) (isUnkeyed state && not mark) h′ .1) .1)
 
 -- a packet with data of a carried length passes the rows that the record and the packet's shape decide
-pub front-none : (limit : ℕ) (l : Link) (count : ℕ) (text : List ℕ) → wellFormed l ≡ true → outside shortestPlain limit (length text) ≡ false
-    → firstOf (frontRows limit l (0x00 ∷ 0xFD ∷ header count ++ text)) ≡ done
-front-none limit l count text well long =
-    let packet : List ℕ = 0x00 ∷ 0xFD ∷ header count ++ text in
+pub front-none : (limit : ℕ) (l : Link) (fresh : Bool) (count : ℕ) (text : List ℕ) → wellFormed l ≡ true → outside shortestPlain limit (length text) ≡ false
+    → firstOf (frontRows limit l (0x00 ∷ 0xFD ∷ header fresh count ++ text)) ≡ done
+front-none limit l fresh count text well long =
+    let packet : List ℕ = 0x00 ∷ 0xFD ∷ header fresh count ++ text in
     let (low, high) = within shortestPlain limit (length text) long in
     let whole : outside (front + shortestPlain) (front + limit) (length packet) ≡ false =
     outside-none (front + shortestPlain) (front + limit) (length packet) (omega arith) (omega arith) in
     rw (well, whole)
 
 -- what a sealed packet's header says
-pub sealed-header : (session : List ℕ) (count : ℕ) (plain : List ℕ) → count < counts → headerIn (sealedPacket session count plain) ≡ bitA + bitD + count
-unfolding sealedPacket
-sealed-header session count plain h = omega arith
+abbrev pub headerOf : Bool → ℕ → ℕ
+headerOf fresh count = pick fresh bitA 0 + bitD + count
 
-pub header-count : (count : ℕ) → count < counts → countOf (bitA + bitD + count) ≡ count
-header-count count h = omega arith
+pub sealed-header : (fresh : Bool) (state : Rc4) (count : ℕ) (plain : List ℕ) → count < counts → headerIn (packetOn fresh state count plain) ≡ headerOf fresh count
+unfolding packetOn
+sealed-header true state count plain h = omega arith
+sealed-header false state count plain h = omega arith
 
-pub header-A : (count : ℕ) → count < counts → lacks bitA (bitA + bitD + count) ≡ false
-header-A count h =
+pub header-count : (fresh : Bool) (count : ℕ) → count < counts → countOf (headerOf fresh count) ≡ count
+header-count true count h = omega arith
+header-count false count h = omega arith
+
+pub header-A : (fresh : Bool) (count : ℕ) → count < counts → lacks bitA (headerOf fresh count) ≡ not fresh
+header-A true count h =
     let one : (bitA + bitD + count) / bitA % 2 ≡ 1 = omega arith in
     rw one
+header-A false count h =
+    let none : (0 + bitD + count) / bitA % 2 ≡ 0 = omega arith in
+    rw none
 
-pub header-D : (count : ℕ) → count < counts → lacks bitD (bitA + bitD + count) ≡ false
-header-D count h =
+pub header-D : (fresh : Bool) (count : ℕ) → count < counts → lacks bitD (headerOf fresh count) ≡ false
+header-D true count h =
     let one : (bitA + bitD + count) / bitD % 2 ≡ 1 = omega arith in
     rw one
+header-D false count h =
+    let one : (0 + bitD + count) / bitD % 2 ≡ 1 = omega arith in
+    rw one
+
+-- how many counts end in 0xFF, without counting them
+pub endings-are : (last d : ℕ) → endings last d ≡ (last + d + 1) / 256 - (last + 1) / 256
+unfolding endings
+endings-are last zero = omega arith
+endings-are last (suc d) = one (eqb ((last + suc d) % 256) 255) refl (endings-are last d)
+  where
+    one : (t : Bool) → eqb ((last + suc d) % 256) 255 ≡ t → endings last d ≡ (last + d + 1) / 256 - (last + 1) / 256
+        → endings last d + pick t 1 0 ≡ (last + suc d + 1) / 256 - (last + 1) / 256
+    one true e ih = omega (arith, ih, eqb-true ((last + suc d) % 256) 255 e)
+    one false e ih = omega (arith, ih, eqb-false ((last + suc d) % 256) 255 e)
+
+-- no count brings more than one key change
+pub changes-few : (mode : Mode) (last d : ℕ) → changesOver mode last d ≤ d
+unfolding changesOver
+changes-few Stateless last d = omega arith
+changes-few Stateful last d = omega (arith, endings-are last d)
 
 -- the distance from the count that the record holds when `next` packets are sealed to the count of packet q
 pub distance-is : (next q : ℕ) → next ≤ q → suc (q - next) < counts → distance ((next + newCount) % counts) (q % counts) ≡ suc (q - next)
@@ -101,6 +154,25 @@ report-bound limit far l packet out = go (openCode limit far l packet (length ou
     rows : List (ℕ × Bool)
     rows = openRows limit far l packet (length out)
 
+    near : ltb far (awayFor l (headerIn packet)) ≡ false → changesFor l (headerIn packet) ≤ far
+    near e = omega (arith, ltb-false far (awayFor l (headerIn packet)) e, changes-few (l .mode) (l .count) (awayFor l (headerIn packet)))
+
     go : (code : ℕ) → firstOf rows ≡ code → openedBy code l (headerIn packet) (dataIn packet) out .outcome .changes ≤ far
-    go zero e = ltb-false far (changesFor l (headerIn packet)) (clear late rows refl e .0)
-    go (suc n) e = omega arith
+    go zero e = near (clear late rows refl e .0)
+    go (suc n) e = by (eqb (suc n) waiting) refl
+      where
+        by : (t : Bool) → eqb (suc n) waiting ≡ t → pick t (waited l (headerIn packet) out) (refusal (suc n) l out) .outcome .changes ≤ far
+        by true w = near (clear late (take 7 rows) refl (rows-passed waiting (take 7 rows) (drop 7 rows) refl (e ∙ eqb-true (suc n) waiting w)) .0)
+        by false w = omega arith
+
+-- with a stateless record no packet is waited for
+pub no-waiting : (limit far : ℕ) (l : Link) (packet : List ℕ) (lent : ℕ) → l .mode ≡ Stateless → openCode limit far l packet lent ≡ waiting → ⊥
+unfolding openCode
+no-waiting limit far l packet lent mode e =
+    let rows : List (ℕ × Bool) = openRows limit far l packet lent in
+    let h : ℕ = headerIn packet in
+    let early = rows-passed waiting (take 7 rows) (drop 7 rows) refl e in
+    let flag : byMode (l .mode) (lacks bitA h) false ≡ false = clear flags (take 7 rows) refl early .0 in
+    let set : lacks bitA h ≡ false = rw mode at flag in
+    let left : firstOf (drop 7 rows) ≡ waiting = sym (rows-pass (take 7 rows) (drop 7 rows) refl early) ∙ e in
+    never waiting (dataRows l h (dataIn packet) lent) refl refl (rw set at left)

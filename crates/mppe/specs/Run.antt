@@ -7,6 +7,7 @@ use lib.ListN.{length, getD}
 use Rattle.answer.specs.Answer.{done, firstOf, onDone}
 use Rattle.octets.specs.Octets.{written}
 use Rattle.mppe_keys.specs.declared.Strength.{Strength}
+use Rattle.mppe_keys.specs.declared.Mode.the-variants.{Stateless}
 use Rattle.mppe_keys.specs.Keys.{initialKey, keyChange}
 use Rattle.mppe.specs.declared.Link.{Link}
 use Rattle.mppe.specs.Link.{counts, farthest, renewed, newLink, sealedPacket, Result, finished, refusal, plainRows, sealResult, openCode, openResult}
@@ -48,7 +49,7 @@ pub record History : Type 0 where
 -- "Both ends begin with one and the same record, that of a new link"; the sender's history "is fed the strength, the start key .."
 module _ (s : Strength) (start : List ℕ) where
   abbrev pub first : Link
-  first = newLink s start .link
+  first = newLink s Stateless start .link
 
   -- "the number of packets sealed, at first 0, and a session key, at first the initial one"
   abbrev pub beginning : History
@@ -138,7 +139,7 @@ module _ (limit far : ℕ) where
   -- "This is a single claim about the two lists, and not one for each call."
   unfoldable pub Demand3 : ℕ → Type 0
   Demand3 most =
-      (s : Strength) (start : List ℕ) → newLink s start .answer ≡ done → (seals : List SealCall) (opens : List OpenCall)
+      (s : Strength) (start : List ℕ) → newLink s Stateless start .answer ≡ done → (seals : List SealCall) (opens : List OpenCall)
       → Meets s start (packets limit s start (beginning s start) seals) most 0 (first s start) opens
       → (sealRun limit (first s start) seals ≡ said limit s start (beginning s start) (first s start) seals)
       × (openRun (first s start) opens ≡ due s start (packets limit s start (beginning s start) seals) 0 (first s start) opens)

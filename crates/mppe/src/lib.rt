@@ -1,16 +1,19 @@
-// MPPE's link in stateless mode: the record, sealing and opening (01, "Keys" and "Packets and counts"; RFC 3078, sections 3 and 7).
+// MPPE's link in both modes: the record, sealing, opening and Reset-Requests (01, "Keys" and "Packets and counts"; 02, M-103; RFC 3078,
+// sections 3, 6 and 7).
 ghost use mathlib.Core.Path.{_≡_};
-ghost use mathlib.Core.Bool.{true};
+ghost use mathlib.Core.Bool.{true, false, _||_};
 ghost use mathlib.Core.List.{[], _∷_};
 ghost use Prim.Native.Nat.{_+_, _*_, _%_, _≤_, _<_};
 ghost use lib.ListN.{length, drop};
-ghost use Rattle.answer.specs.Answer.{outside};
+ghost use Rattle.answer.specs.Answer.{pick, outside};
 ghost use Rattle.octets.specs.Octets.{written};
-ghost use Rattle.rc4.specs.Cipher.{keySchedule, run};
-ghost use Rattle.mppe_keys.specs.Keys.{changes as changesOf};
-ghost use Rattle.mppe.specs.Link.{shortestPlain, longestPlain, front, counts, zeros, wellFormed, newLink, startKeyIn, sessionKeyIn, renewed, offProtocol, header, distance as distanceOf, farthest, refusal, sealCode, sealResult, openResult};
-ghost use Rattle.mppe.specs.Inner.{frontCode, headerCode, dataResult};
+ghost use Rattle.rc4.specs.Cipher.{run, after};
+ghost use Rattle.mppe_keys.specs.Keys.{byMode, changes as changesOf};
+ghost use Rattle.mppe.specs.Link.{shortestPlain, longestPlain, front, counts, zeros, boxFits, wellFormed, noLink, newLink, startKeyIn, sessionKeyIn, withBox, keptBox, renewed, offProtocol, bitA, bitD, header, lacks, opensBy, distance as distanceOf, farthest, changesOver, refusal, sealCode, sealResult, openResult, resetOutcome};
+ghost use Rattle.mppe.specs.Inner.{frontCode, headerCode, cipherIn, settledOn, waitedOn, dataResult};
+use mppe_keys::Mode;
 use mppe_keys::Strength;
+use mppe_keys::is_stateful;
 use mppe_keys::key_length;
 use octets::pair;
 use rc4::Rc4;
@@ -41,9 +44,12 @@ const LAST_COUNT: u16 = 4095;
 // A link record. Its calls take any, and say which are well formed.
 pub struct Link {
     pub strength: Strength,
+    pub mode: Mode,
     pub start: [u8; 16],
     pub session: [u8; 16],
     pub count: u16,
+    pub state: Rc4,
+    pub waiting: bool,
 }
 
 // What a new link is.
@@ -61,19 +67,14 @@ pub struct Outcome {
 
 impl Link {
     // The record that both ends begin with, of a start key that has its strength's octets.
-    pub fn new(strength: Strength, start: &[u8]) -> NewLink
-        ensures { λ r. ⌜ r ≡ newLink strength (now (start .entry)) ⌝ }
+    pub fn new(strength: Strength, mode: Mode, start: &[u8]) -> NewLink
+        ensures { λ r. ⌜ r ≡ newLink strength mode (now (start .entry)) ⌝ }
     {
         let initial = mppe_keys::initial_session_key(strength, start);
         if initial.answer != answer::DONE {
             return NewLink {
                 answer: answer::SIZE,
-                link: Link {
-                    strength,
-                    start: [0u8; 16],
-                    session: [0u8; 16],
-                    count: 0,
-                },
+                link: no_link(strength, mode),
             };
         }
         let session = initial.octets;
@@ -83,9 +84,12 @@ impl Link {
             answer: answer::DONE,
             link: Link {
                 strength,
+                mode,
                 start: places,
                 session,
                 count: LAST_COUNT,
+                state: Rc4::unkeyed(),
+                waiting: is_stateful(mode),
             },
         }
     }
@@ -100,14 +104,16 @@ impl Link {
             return refused(code, self);
         }
         let count = next_count(self.count);
-        let next = moved(self, count, 1);
-        put_front(count, out);
-        let cipher = cipher_of(next);
-        cipher.run(plain, &mut out[FRONT..]);
+        let mode = self.mode;
+        let changes = changes_over(mode, self.count, 1);
+        let next = moved(self, count, changes);
+        let fresh = either(changes != 0, self.waiting);
+        put_front(fresh, count, out);
+        let kept = encipher(next, fresh, plain, &mut out[FRONT..]);
         Outcome {
             answer: answer::DONE,
-            changes: 1,
-            link: next,
+            changes,
+            link: with_box(next, kept, false),
         }
     }
 
@@ -131,22 +137,69 @@ impl Link {
             × (now (out .exit) ≡ dataResult farthest self header (now (text .entry)) (now (out .entry)) .buffer) ⌝ }
     {
         let count = header % COUNTS;
-        let changes = distance(self.count, count);
-        let code = header_code(header, changes, text.len(), out.len());
+        let away = distance(self.count, count);
+        let mode = self.mode;
+        let code = header_code(mode, self.waiting, header, away, text.len(), out.len());
+        let changes = changes_over(mode, self.count, away);
+        if code == answer::WAITING {
+            let next = moved(self, count, changes);
+            return waited(next, changes);
+        }
         if code != answer::DONE {
             return refused(code, self);
         }
         let next = moved(self, count, changes);
-        let cipher = cipher_of(next);
+        let cipher = cipher_of(next, either(changes != 0, !lacks_a(header)));
         if runs_off_protocol(cipher, text) {
             return refused(answer::PROTOCOL, self);
         }
-        cipher.run(text, out);
+        let ran = cipher.run(text, out);
+        let left = ran.state;
         Outcome {
             answer: answer::DONE,
             changes,
-            link: next,
+            link: settled(next, left),
         }
+    }
+
+    // Takes a Reset-Request: a stateful sender then keys RC4 afresh for its next packet.
+    pub fn reset(self, request: &[u8]) -> Outcome
+        ensures { λ r. ⌜ r ≡ resetOutcome self (now (request .entry)) ⌝ }
+    {
+        if !well_formed(self) {
+            return refused(answer::RECORD, self);
+        }
+        let read = ccp::read_reset(request);
+        if read.answer != answer::DONE {
+            return refused(answer::SHAPE, self);
+        }
+        let mode = self.mode;
+        let state = self.state;
+        Outcome {
+            answer: answer::DONE,
+            changes: 0,
+            link: with_box(self, state, is_stateful(mode)),
+        }
+    }
+}
+
+// The record of a new link that is refused.
+pub fn no_link(strength: Strength, mode: Mode) -> Link
+    ensures { λ r. ⌜ r ≡ noLink strength mode ⌝ }
+{
+    let state = Rc4 {
+        cells: [0u8; 256],
+        i: 0,
+        j: 0,
+    };
+    Link {
+        strength,
+        mode,
+        start: [0u8; 16],
+        session: [0u8; 16],
+        count: 0,
+        state,
+        waiting: false,
     }
 }
 
@@ -202,26 +255,69 @@ fn front_code(link: Link, packet: &[u8]) -> u8
     answer::DONE
 }
 
-// The number by the rows that the header, its distance and two lengths decide.
-fn header_code(header: u16, distance: u16, length: usize, room: usize) -> u8
-    ensures { λ r. ⌜ r ≡ headerCode farthest header distance length room ⌝ }
+// The number by the rows that the record, the header, its distance and two lengths decide.
+fn header_code(mode: Mode, waiting: bool, header: u16, away: u16, length: usize, room: usize) -> u8
+    ensures { λ r. ⌜ r ≡ headerCode farthest mode waiting header away length room ⌝ }
 {
-    if header / BIT_A % 2 == 0 {
+    if lacks_flag(mode, header) {
         return answer::FLAGS;
     }
     if header / BIT_D % 2 == 0 {
         return answer::FLAGS;
     }
-    if distance == 0 {
+    if away == 0 {
         return answer::REPEAT;
     }
-    if FARTHEST < distance {
+    if FARTHEST < away {
         return answer::LATE;
+    }
+    if !opens(header, away, waiting) {
+        return answer::WAITING;
     }
     if room < length {
         return answer::ROOM;
     }
     answer::DONE
+}
+
+// Whether a header lacks bit A, which stateless mode asks for.
+fn lacks_flag(mode: Mode, header: u16) -> bool
+    ensures { λ r. ⌜ r ≡ byMode mode (lacks bitA header) false ⌝ }
+{
+    match mode {
+        Mode::Stateless => lacks_a(header),
+        Mode::Stateful => false,
+    }
+}
+
+// Whether bit A of a header is 0.
+fn lacks_a(header: u16) -> bool
+    ensures { λ r. ⌜ r ≡ lacks bitA header ⌝ }
+{
+    header / BIT_A % 2 == 0
+}
+
+// Whether there is a box to open with: one keyed afresh, or the one that the last packet left.
+fn opens(header: u16, away: u16, waiting: bool) -> bool
+    ensures { λ r. ⌜ r ≡ opensBy (lacks bitA header) away waiting ⌝ }
+{
+    if !lacks_a(header) {
+        return true;
+    }
+    if away != 1 {
+        return false;
+    }
+    !waiting
+}
+
+// Whether one of two tests holds.
+fn either(a: bool, b: bool) -> bool
+    ensures { λ r. ⌜ r ≡ a || b ⌝ }
+{
+    if a {
+        return true;
+    }
+    b
 }
 
 // Whether a record is well formed.
@@ -241,7 +337,27 @@ fn well_formed(link: Link) -> bool
     if !zeros_from(session, n) {
         return false;
     }
-    mppe_keys::begins_reduced(strength, session)
+    if !mppe_keys::begins_reduced(strength, session) {
+        return false;
+    }
+    let mode = link.mode;
+    let state = link.state;
+    box_fits(mode, state, link.waiting)
+}
+
+// Whether a record's box and mark are what its mode asks for.
+fn box_fits(mode: Mode, state: Rc4, waiting: bool) -> bool
+    ensures { λ r. ⌜ r ≡ boxFits mode state waiting ⌝ }
+{
+    match mode {
+        Mode::Stateless => {
+            if waiting {
+                return false;
+            }
+            state.is_unkeyed()
+        }
+        Mode::Stateful => state.is_permutation(),
+    }
 }
 
 // Whether all places from one on are 0.
@@ -274,9 +390,8 @@ fn runs_off_protocol(cipher: Rc4, text: &[u8]) -> bool
     requires { ⌜ 2 ≤ length (now text) ⌝ }
     ensures { λ r. ⌜ r ≡ offProtocol (run cipher (now (text .entry))) ⌝ }
 {
-    let mut plain = [0u8; 2];
-    cipher.run(&text[..2], &mut plain);
-    off_protocol(plain[0], plain[1])
+    let next = cipher.next_two();
+    off_protocol(text[0] ^ next[0], text[1] ^ next[1])
 }
 
 // The count of the packet after one.
@@ -295,39 +410,135 @@ fn distance(last: u16, arrived: u16) -> u16
     (arrived + COUNTS - last) % COUNTS
 }
 
-// A record with its session key changed so many times, and another count.
-fn moved(link: Link, count: u16, changes: u16) -> Link
-    ensures { λ r. ⌜ r ≡ renewed link (changesOf (link .strength) (startKeyIn link) changes (sessionKeyIn link)) count ⌝ }
+// How many key changes the counts after the last one bring, as far as one that is so far away.
+fn changes_over(mode: Mode, last: u16, away: u16) -> u16
+    requires { ⌜ (last < counts) × (away < counts) ⌝ }
+    ensures { λ r. ⌜ r ≡ changesOver mode last away ⌝ }
 {
-    let strength = link.strength;
-    let start = link.start;
-    let session = link.session;
-    let changed = mppe_keys::placed_key_changes(strength, start, session, changes as usize);
-    Link {
-        strength,
-        start,
-        session: changed,
-        count,
+    match mode {
+        Mode::Stateless => away,
+        Mode::Stateful => (last + away + 1) / 256 - (last + 1) / 256,
     }
 }
 
-// RC4 freshly keyed with a record's session key.
-fn cipher_of(link: Link) -> Rc4
-    ensures { λ r. ⌜ r ≡ keySchedule (sessionKeyIn link) ⌝ }
+// A record with its session key changed so many times, and another count.
+fn moved(link: Link, count: u16, changes: u16) -> Link
+    ensures { λ r. ⌜ (r ≡ renewed link (changesOf (link .strength) (startKeyIn link) changes (sessionKeyIn link)) count) × (length (link .session) ≡ 16) ⌝ }
 {
     let strength = link.strength;
+    let mode = link.mode;
+    let start = link.start;
     let session = link.session;
-    mppe_keys::placed_cipher(strength, session)
+    let state = link.state;
+    let changed = mppe_keys::placed_key_changes(strength, start, session, changes as usize);
+    Link {
+        strength,
+        mode,
+        start,
+        session: changed,
+        count,
+        state,
+        waiting: link.waiting,
+    }
+}
+
+// RC4 keyed afresh with a record's session key, or as the record holds it.
+fn cipher_of(link: Link, fresh: bool) -> Rc4
+    ensures { λ r. ⌜ r ≡ cipherIn link fresh ⌝ }
+{
+    if fresh {
+        let strength = link.strength;
+        let session = link.session;
+        return mppe_keys::placed_cipher(strength, session);
+    }
+    link.state
+}
+
+// Enciphers a text into a lent buffer, with RC4 keyed afresh or as a record holds it, and gives the box that the record keeps. A stateless
+// one keeps its own, so that RC4 goes from the key to the octets in one call.
+fn encipher(link: Link, fresh: bool, text: &[u8], out: &mut [u8]) -> Rc4
+    requires { ⌜ (byMode (link .mode) fresh true ≡ true) × (length (now text) ≤ longestPlain) × (length (now text) ≤ length (now out)) ⌝ }
+    ensures { λ r. ⌜ (r ≡ keptBox link (after (cipherIn link fresh) (now (text .entry))))
+        × (now (out .exit) ≡ written (run (cipherIn link fresh) (now (text .entry))) (now (out .entry))) ⌝ }
+{
+    let mode = link.mode;
+    match mode {
+        Mode::Stateless => {
+            let strength = link.strength;
+            let session = link.session;
+            let octets = key_length(strength);
+            rc4::apply(&session[..octets], text, out);
+            link.state
+        }
+        Mode::Stateful => {
+            let cipher = cipher_of(link, fresh);
+            let ran = cipher.run(text, out);
+            ran.state
+        }
+    }
+}
+
+// A record after draws that left a box: a stateless one keeps its own, and neither waits.
+fn settled(link: Link, drawn: Rc4) -> Link
+    ensures { λ r. ⌜ r ≡ settledOn link drawn ⌝ }
+{
+    let mode = link.mode;
+    if is_stateful(mode) {
+        return with_box(link, drawn, false);
+    }
+    let state = link.state;
+    with_box(link, state, false)
+}
+
+// What is handed back where a packet has no box to be opened with: the key changes are made, and the record waits.
+fn waited(link: Link, changes: u16) -> Outcome
+    ensures { λ r. ⌜ r ≡ waitedOn link changes ⌝ }
+{
+    let state = cipher_of(link, changes != 0);
+    Outcome {
+        answer: answer::WAITING,
+        changes,
+        link: with_box(link, state, true),
+    }
+}
+
+// A record with another box and mark.
+fn with_box(link: Link, state: Rc4, waiting: bool) -> Link
+    ensures { λ r. ⌜ r ≡ withBox link state waiting ⌝ }
+{
+    let strength = link.strength;
+    let mode = link.mode;
+    let start = link.start;
+    let session = link.session;
+    Link {
+        strength,
+        mode,
+        start,
+        session,
+        count: link.count,
+        state,
+        waiting,
+    }
 }
 
 // Writes what stands before a sealed packet's data.
-fn put_front(count: u16, out: &mut [u8])
+fn put_front(fresh: bool, count: u16, out: &mut [u8])
     requires { ⌜ (count < counts) × (front ≤ length (now out)) ⌝ }
-    ensures { λ _. ⌜ now (out .exit) ≡ written (0x00 ∷ 0xFD ∷ header count) (now (out .entry)) ⌝ }
+    ensures { λ _. ⌜ now (out .exit) ≡ written (0x00 ∷ 0xFD ∷ header fresh count) (now (out .entry)) ⌝ }
 {
-    let header = BIT_A + BIT_D + count;
+    let header = flags(fresh) + count;
     octets::copy(
         &[0x00, 0xFD, (header / 256) as u8, (header % 256) as u8],
         out,
     );
+}
+
+// The header's bits above the count.
+fn flags(fresh: bool) -> u16
+    ensures { λ r. ⌜ (r ≡ pick fresh bitA 0 + bitD) × (r ≤ 0x9000) ⌝ }
+{
+    if fresh {
+        return BIT_A + BIT_D;
+    }
+    BIT_D
 }

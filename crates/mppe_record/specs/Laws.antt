@@ -5,19 +5,24 @@ use mathlib.Core.List.{List, [], _∷_, _++_, append-assoc}
 use Prim.Native.Nat.{ℕ, zero, suc, _+_, _*_, _/_, _%_, _^_, _<_}
 use native.Mathlib.Omega.{arith}
 use lib.Dec.{eqb}
-use lib.ListN.{length, take, drop, getD, replicate, length-append, take-append-drop, drop-of-length-le}
-use lib.Seq.{length-take-le, take-at, drop-at, take-add, drop-cons, getD-drop}
-use borrow.Author.Tests.{eq-eqb, eqb-true}
-use Rattle.answer.specs.Answer.{done, size, notRecord, firstOf, onDone}
+use lib.ListN.{length, take, drop, getD, replicate, length-append, length-drop, take-append-drop}
+use lib.Seq.{length-take-le, take-all, take-at, drop-at, drop-drop, take-add, drop-cons, getD-drop}
+use borrow.Author.Tests.{eq-eqb, eqb-true, ltb-false}
+use Rattle.answer.specs.Answer.{done, size, notRecord, waiting, pick, firstOf, onDone}
 use Rattle.octets.specs.Octets.{bigEndian, pairAt}
+use Rattle.rc4.specs.declared.Rc4.{Rc4}
+use Rattle.rc4.specs.Cipher.{box, unkeyed, keySchedule, after}
+use Rattle.rc4.specs.Permutation.{below-length, Sized as StateSized, keyed-sized, after-sized}
 use Rattle.mppe_keys.specs.declared.Strength.{Strength}
+use Rattle.mppe_keys.specs.declared.Mode.{Mode}
+use Rattle.mppe_keys.specs.declared.Mode.the-variants.{Stateless, Stateful}
 use Rattle.mppe_keys.specs.declared.Strength.the-variants.{Bits40, Bits56, Bits128}
-use Rattle.mppe_keys.specs.Keys.{bitsOf, keyLength, headOf, begins, initialKey}
-use Rattle.mppe_keys.specs.Laws.{key-most, placed-length, initialKey-length, keyChange-length, changes-length}
+use Rattle.mppe_keys.specs.Keys.{bitsOf, keyLength, byMode, modeIf, headOf, begins, initialKey, changes, placed}
+use Rattle.mppe_keys.specs.Laws.{key-most, placed-length, initialKey-length, changes-length}
 use Rattle.mppe.specs.declared.Link.{Link}
-use Rattle.mppe.specs.Link.{zeros, wellFormed, Result, startKeyIn, sessionKeyIn, linkOf, newCount, newLink, refusal, sealCode, sealResult, nextKey, headerIn, changesFor, keyFor, openCode, openResult}
+use Rattle.mppe.specs.Link.{zeros, wellFormed, Result, startKeyIn, sessionKeyIn, linkOf, withBox, keptBox, newCount, noLink, newLink, bitA, lacks, refusal, sealCode, sealResult, nextChanges, nextKey, keysAfresh, nextBox, headerIn, dataIn, changesFor, keyFor, boxFor, stateFor, waited, openCode, openResult, resetCode, resetOutcome}
 use Rattle.mppe_record.specs.declared.RecordRead.{RecordRead}
-use Rattle.mppe_record.specs.Record.{strengthOf, noStrength, recordLength, recordOctets, recordIn, noRecord, recordRead}
+use Rattle.mppe_record.specs.Record.{strengthOf, noStrength, yesNumber, noChoice, frontOctets, restOctets, recordLength, recordOctets, recordIn, noRecord, recordRead}
 
 -- a strength's bits are its number
 pub bits-back : (s : Strength) → strengthOf (bitsOf s) ≡ s
@@ -30,57 +35,123 @@ bits-known Bits40 = refl
 bits-known Bits56 = refl
 bits-known Bits128 = refl
 
--- what the fields of the code's struct hold: 16 places a key, and a count of 16 bits
+-- a mode is stateful or is not, and a yes or no is its number
+mode-back : (m : Mode) → modeIf (byMode m false true) ≡ m
+mode-back Stateless = refl
+mode-back Stateful = refl
+
+mode-told : (stateful : Bool) → byMode (modeIf stateful) false true ≡ stateful
+mode-told true = refl
+mode-told false = refl
+
+yes-back : (holds : Bool) → eqb (yesNumber holds) 1 ≡ holds
+yes-back true = refl
+yes-back false = refl
+
+yes-known : (holds : Bool) → noChoice (yesNumber holds) ≡ false
+yes-known true = refl
+yes-known false = refl
+
+-- what the fields of the code's struct hold: 16 places a key, a count of 16 bits, 256 cells, and indices that are octets
 abbrev pub Sized : Link → Type 0
-Sized l = (length (l .start) ≡ 16) × (length (l .session) ≡ 16) × (l .count < 65536)
+Sized l = (length (l .start) ≡ 16) × (length (l .session) ≡ 16) × (l .count < 65536) × StateSized (l .state)
 
 -- the octets of a record: their number ..
+pub frontOctets-length : (l : Link) → Sized l → length (frontOctets l) ≡ 35
+unfolding frontOctets
+frontOctets-length l (hs, hk, hc, hb) = simp length-append (omega arith)
+
+restOctets-length : (l : Link) → Sized l → length (restOctets l) ≡ 260
+unfolding restOctets
+restOctets-length l (hs, hk, hc, hb) = omega (arith, hb .0)
+
 pub recordOctets-length : (l : Link) → Sized l → length (recordOctets l) ≡ recordLength
 unfolding recordOctets
-recordOctets-length l (hs, hk, hc) = simp length-append (omega arith)
+recordOctets-length l h = length-append (frontOctets l) (restOctets l) ∙ omega (arith, frontOctets-length l h, restOctets-length l h)
+
+-- .. what stands behind the first 35 ..
+behind-front : (l : Link) → Sized l → drop 35 (recordOctets l) ≡ restOctets l
+unfolding recordOctets
+behind-front l h = drop-at (frontOctets l) (restOctets l) 35 (frontOctets-length l h)
+
+rest-at : (l : Link) → Sized l → (i : ℕ) → getD (recordOctets l) (35 + i) 0 ≡ getD (restOctets l) i 0
+rest-at l h i = sym (getD-drop 35 (recordOctets l) i 0) ∙ ap (λ t. getD t i 0) (behind-front l h)
 
 -- .. and that the record is read back from them
-first-known : (l : Link) → noStrength (getD (recordOctets l) 0 0) ≡ false
-unfolding recordOctets
-first-known l = bits-known (l .strength)
+first-is : (l : Link) → getD (recordOctets l) 0 0 ≡ bitsOf (l .strength)
+unfolding recordOctets frontOctets
+first-is l = refl
+
+mode-is : (l : Link) → Sized l → getD (recordOctets l) 35 0 ≡ yesNumber (byMode (l .mode) false true)
+mode-is l h = rest-at l h 0 ∙ unfold restOctets in refl
+
+mark-is : (l : Link) → Sized l → getD (recordOctets l) 36 0 ≡ yesNumber (l .waiting)
+mark-is l h = rest-at l h 1 ∙ unfold restOctets in refl
+
+cells-are : (l : Link) → Sized l → take 256 (drop 39 (recordOctets l)) ≡ l .state .cells
+cells-are l h =
+    let behind : drop 39 (recordOctets l) ≡ drop 4 (restOctets l) = sym (drop-drop 4 35 (recordOctets l)) ∙ ap (drop 4) (behind-front l h) in
+    let cells : drop 4 (restOctets l) ≡ l .state .cells = unfold restOctets in refl in
+    ap (take 256) (behind ∙ cells) ∙ take-all 256 (l .state .cells) (omega (arith, h .3 .0))
+
+keys-are : (l : Link) → Sized l
+    → (take 16 (drop 1 (recordOctets l)) ≡ l .start) × (take 16 (drop 17 (recordOctets l)) ≡ l .session) × (pairAt 33 (recordOctets l) ≡ l .count)
+unfolding recordOctets frontOctets
+keys-are l (hs, hk, hc, hb) =
+    let count : List ℕ = bigEndian 2 (l .count) in
+    let tail : List ℕ = count ++ restOctets l in
+    let both : length (l .start ++ l .session) ≡ 32 = length-append (l .start) (l .session) ∙ omega arith in
+    let body : List ℕ = (l .start ++ l .session ++ count) ++ restOctets l in
+    let parts : body ≡ (l .start ++ l .session) ++ tail = append-assoc (l .start ++ l .session) count (restOctets l) in
+    let parts′ : body ≡ l .start ++ (l .session ++ tail) = parts ∙ append-assoc (l .start) (l .session) tail in
+    let start : take 16 body ≡ l .start = ap (take 16) parts′ ∙ take-at (l .start) (l .session ++ tail) 16 hs in
+    let behind = ap (drop 16) parts′ ∙ drop-at (l .start) (l .session ++ tail) 16 hs in
+    let session : take 16 (drop 16 body) ≡ l .session = ap (take 16) behind ∙ take-at (l .session) tail 16 hk in
+    let last : drop 32 body ≡ tail = ap (drop 32) parts ∙ drop-at (l .start ++ l .session) tail 32 both in
+    let all : List ℕ = recordOctets l in
+    let high : getD all 33 0 ≡ l .count / 256 ^ 1 % 256 = sym (getD-drop 32 body 0 0) ∙ ap (λ t. getD t 0 0) last in
+    let low : getD all 34 0 ≡ l .count / 256 ^ 0 % 256 = sym (getD-drop 32 body 1 0) ∙ ap (λ t. getD t 1 0) last in
+    (start, session, rw (high, low) (omega arith))
 
 recordIn-back : (l : Link) → Sized l → recordIn (recordOctets l) ≡ l
-unfolding recordIn recordOctets
-recordIn-back l (hs, hk, hc) =
-    let tail : List ℕ = bigEndian 2 (l .count) in
-    let both : length (l .start ++ l .session) ≡ 32 = length-append (l .start) (l .session) ∙ omega arith in
-    let parts : l .start ++ l .session ++ tail ≡ l .start ++ (l .session ++ tail) = append-assoc (l .start) (l .session) tail in
-    let start : take 16 (l .start ++ l .session ++ tail) ≡ l .start = ap (take 16) parts ∙ take-at (l .start) (l .session ++ tail) 16 hs in
-    let behind = ap (drop 16) parts ∙ drop-at (l .start) (l .session ++ tail) 16 hs in
-    let session : take 16 (drop 16 (l .start ++ l .session ++ tail)) ≡ l .session = ap (take 16) behind ∙ take-at (l .session) tail 16 hk in
-    let last : drop 32 (l .start ++ l .session ++ tail) ≡ tail = drop-at (l .start ++ l .session) tail 32 both in
-    let all : List ℕ = recordOctets l in
-    let high : getD all 33 0 ≡ l .count / 256 ^ 1 % 256 = sym (getD-drop 33 all 0 0) ∙ ap (λ t. getD t 0 0) last in
-    let low : getD all 34 0 ≡ l .count / 256 ^ 0 % 256 = sym (getD-drop 33 all 1 0) ∙ ap (λ t. getD t 1 0) last in
-    let count : pairAt 33 all ≡ l .count = rw (high, low) (omega arith) in
-    rw (bits-back (l .strength), start, session, count)
+unfolding recordIn
+recordIn-back l h =
+    let (start, session, count) = keys-are l h in
+    let i-is : getD (recordOctets l) 37 0 ≡ l .state .i = rest-at l h 2 ∙ unfold restOctets in refl in
+    let j-is : getD (recordOctets l) 38 0 ≡ l .state .j = rest-at l h 3 ∙ unfold restOctets in refl in
+    rw
+    (first-is l, bits-back (l .strength), mode-is l h, yes-back (byMode (l .mode) false true), mode-back (l .mode), mark-is l h, yes-back (l .waiting), start, session, count, cells-are l h, i-is, j-is)
 
 pub reads-back : (l : Link) → Sized l → recordRead (recordOctets l) ≡ record { answer = done; link = l }
 unfolding recordRead
-reads-back l h = rw (eq-eqb (length (recordOctets l)) recordLength (recordOctets-length l h), first-known l, recordIn-back l h)
+reads-back l h =
+    rw
+    (eq-eqb (length (recordOctets l)) recordLength (recordOctets-length l h), first-is l, bits-known (l .strength), mode-is l h, yes-known (byMode (l .mode) false true), mark-is l h, yes-known (l .waiting), recordIn-back l h)
 
--- octets that are read: there are 35 of them, the first is the bits of a strength, and what is read is the record in them
+-- octets that are read: there are 295 of them, the first is the bits of a strength, mode and mark are 0 or 1, and what is read is the
+-- record in them
 abbrev firstIs : List ℕ → Bool
 firstIs octets = let bits : ℕ = getD octets 0 0 in eqb bits (bitsOf (strengthOf bits))
 
 read-known : (octets : List ℕ) → recordRead octets .answer ≡ done
-    → (length octets ≡ recordLength) × (firstIs octets ≡ true) × (recordRead octets .link ≡ recordIn octets)
+    → (length octets ≡ recordLength) × (firstIs octets ≡ true) × (noChoice (getD octets 35 0) ≡ false) × (noChoice (getD octets 36 0) ≡ false)
+    × (recordRead octets .link ≡ recordIn octets)
 unfolding recordRead
-read-known octets ok = go (eqb (length octets) recordLength) (firstIs octets) refl refl ok
+read-known octets ok = go (eqb (length octets) recordLength) (firstIs octets) (noChoice (getD octets 35 0)) (noChoice (getD octets 36 0)) refl refl refl refl ok
   where
-    read : Bool → Bool → RecordRead
-    read a b = onDone (firstOf ((notRecord, not a) ∷ (notRecord, not b) ∷ [])) (record { answer = done; link = recordIn octets }) noRecord
+    read : Bool → Bool → Bool → Bool → RecordRead
+    read a b m k =
+        onDone (firstOf ((notRecord, not a) ∷ (notRecord, not b) ∷ (notRecord, m) ∷ (notRecord, k) ∷ [])) (record { answer = done; link = recordIn octets }) noRecord
 
-    go : (a b : Bool) → eqb (length octets) recordLength ≡ a → firstIs octets ≡ b → read a b .answer ≡ done
-        → (length octets ≡ recordLength) × (firstIs octets ≡ true) × (read a b .link ≡ recordIn octets)
-    go true true h e ok = (eqb-true (length octets) recordLength h, e, refl)
-    go true false h e ok = absurd (omega arith)
-    go false b h e ok = absurd (omega arith)
+    go : (a b m k : Bool) → eqb (length octets) recordLength ≡ a → firstIs octets ≡ b → noChoice (getD octets 35 0) ≡ m → noChoice (getD octets 36 0) ≡ k
+        → read a b m k .answer ≡ done
+        → (length octets ≡ recordLength) × (firstIs octets ≡ true) × (noChoice (getD octets 35 0) ≡ false) × (noChoice (getD octets 36 0) ≡ false)
+        × (read a b m k .link ≡ recordIn octets)
+    go true true false false h e em ek ok = (eqb-true (length octets) recordLength h, e, em, ek, refl)
+    go true true false true h e em ek ok = absurd (omega arith)
+    go true true true k h e em ek ok = absurd (omega arith)
+    go true false m k h e em ek ok = absurd (omega arith)
+    go false b m k h e em ek ok = absurd (omega arith)
 
 pub read-length : (octets : List ℕ) → recordRead octets .answer ≡ done → length octets ≡ recordLength
 read-length octets ok = read-known octets ok .0
@@ -89,59 +160,124 @@ read-length octets ok = read-known octets ok .0
 abbrev pub Octets : List ℕ → Type 0
 Octets l = (i : ℕ) → getD l i 0 < 256
 
--- octets that hold a record, read and written back, are the same
-octets-back : (octets : List ℕ) → Octets octets → length octets ≡ recordLength → firstIs octets ≡ true → recordOctets (recordIn octets) ≡ octets
-unfolding recordOctets recordIn
-octets-back [] all h e = absurd (omega arith)
-octets-back (x ∷ xs) all h e =
+-- octets that hold a record, read and written back, are the same: the first 35 ..
+front-back : (octets : List ℕ) → Octets octets → length octets ≡ recordLength → firstIs octets ≡ true → frontOctets (recordIn octets) ≡ take 35 octets
+unfolding frontOctets recordIn
+front-back [] all h e = absurd (omega arith)
+front-back (x ∷ xs) all h e =
     let high : ℕ = getD xs 32 0 in
     let low : ℕ = getD xs 33 0 in
-    let last : drop 32 xs ≡ high ∷ low ∷ [] =
-    drop-cons xs 32 0 (omega arith) ∙ ap (λ t. high ∷ t) (drop-cons xs 33 0 (omega arith) ∙ ap (λ t. low ∷ t) (drop-of-length-le xs {i = 34} (omega arith))) in
+    let last : take 2 (drop 32 xs) ≡ high ∷ low ∷ [] = ap (take 2) (drop-cons xs 32 0 (omega arith) ∙ ap (λ t. high ∷ t) (drop-cons xs 33 0 (omega arith))) in
     let first : (high * 256 + low) / 256 ^ 1 % 256 ≡ high = omega (arith, all 33, all 34) in
     let second : (high * 256 + low) / 256 ^ 0 % 256 ≡ low = omega (arith, all 34) in
     let tail : List ℕ = bigEndian 2 (high * 256 + low) in
     let count : tail ≡ high ∷ low ∷ [] = rw (first, second) in
     let keys : take 16 xs ++ take 16 (drop 16 xs) ≡ take 32 xs = sym (take-add 16 16 xs) in
-    let behind : take 16 xs ++ take 16 (drop 16 xs) ++ tail ≡ xs = ap (λ k. k ++ tail) keys ∙ ap (λ t. take 32 xs ++ t) (count ∙ sym last) ∙ take-append-drop 32 xs in
-    ap (λ t. bitsOf (strengthOf x) ∷ t) behind ∙ ap (λ b. b ∷ xs) (sym (eqb-true x (bitsOf (strengthOf x)) e))
+    let behind : take 16 xs ++ take 16 (drop 16 xs) ++ tail ≡ take 34 xs = ap (λ k. k ++ tail) keys ∙ ap (λ t. take 32 xs ++ t) (count ∙ sym last) ∙ sym (take-add 32 2 xs) in
+    ap (λ t. bitsOf (strengthOf x) ∷ t) behind ∙ ap (λ b. b ∷ take 34 xs) (sym (eqb-true x (bitsOf (strengthOf x)) e))
+
+-- .. and those behind them
+choice-is : (n : ℕ) → noChoice n ≡ false → yesNumber (eqb n 1) ≡ n
+choice-is zero h = refl
+choice-is (suc zero) h = refl
+choice-is (suc (suc n)) h = absurd (omega (arith, ltb-false 1 (suc (suc n)) h))
+
+rest-back : (octets : List ℕ) → length octets ≡ recordLength → noChoice (getD octets 35 0) ≡ false → noChoice (getD octets 36 0) ≡ false
+    → restOctets (recordIn octets) ≡ drop 35 octets
+unfolding restOctets recordIn
+rest-back octets h em ek =
+    let long = length-drop 39 octets in
+    let cells : take 256 (drop 39 octets) ≡ drop 39 octets = take-all 256 (drop 39 octets) (omega arith) in
+    let four : drop 35 octets ≡ getD octets 35 0 ∷ getD octets 36 0 ∷ getD octets 37 0 ∷ getD octets 38 0 ∷ drop 39 octets =
+    drop-cons octets 35 0 (omega arith)
+    ∙ ap (λ t. getD octets 35 0 ∷ t)
+    (drop-cons octets 36 0 (omega arith)
+    ∙ ap (λ t. getD octets 36 0 ∷ t) (drop-cons octets 37 0 (omega arith) ∙ ap (λ t. getD octets 37 0 ∷ t) (drop-cons octets 38 0 (omega arith)))) in
+    rw (mode-told (eqb (getD octets 35 0) 1), choice-is (getD octets 35 0) em, choice-is (getD octets 36 0) ek, cells) (sym four)
 
 pub writes-back : (octets : List ℕ) → Octets octets → recordRead octets .answer ≡ done → recordOctets (recordRead octets .link) ≡ octets
+unfolding recordOctets
 writes-back octets all ok =
-    let (long, first, link) = read-known octets ok in
-    ap recordOctets link ∙ octets-back octets all long first
+    let (long, first, mode, mark, link) = read-known octets ok in
+    rw (link, front-back octets all long first, rest-back octets long mode mark) (take-append-drop 35 octets)
 
 -- what is read of octets that hold no record is not well formed, so that seal and open refuse it
 pub noRecord-ill : wellFormed (noRecord .link) ≡ false
-unfolding wellFormed zeros begins headOf
+unfolding wellFormed zeros begins headOf noLink
 noRecord-ill = refl
 
--- a new link has these sizes, and seal and open keep them
-pub new-sized : (s : Strength) (start : List ℕ) → Sized (newLink s start .link)
-unfolding newLink
-new-sized s start = go (eqb (length start) (keyLength s)) refl
+-- a new link has these sizes, and all calls keep them
+zeros-sized : StateSized (box (replicate 256 0) 0 0)
+zeros-sized = (refl, omega arith, omega arith)
+
+unkeyed-sized : StateSized unkeyed
+unkeyed-sized = (below-length 256, omega arith, omega arith)
+
+pub new-sized : (s : Strength) (mode : Mode) (start : List ℕ) → Sized (newLink s mode start .link)
+unfolding newLink noLink
+new-sized s mode start = go (eqb (length start) (keyLength s)) refl
   where
     go : (t : Bool) → eqb (length start) (keyLength s) ≡ t
-        → Sized (onDone (firstOf ((size, not t) ∷ [])) (linkOf s start (initialKey s start) newCount) (record { strength = s; start = replicate 16 0; session = replicate 16 0; count = 0 }))
-    go true h = (placed-length start (omega (arith, eqb-true (length start) (keyLength s) h, key-most s)), placed-length (initialKey s start) (omega (arith, initialKey-length s start, key-most s)), omega arith)
-    go false h = (refl, refl, omega arith)
+        → Sized (onDone (firstOf ((size, not t) ∷ [])) (linkOf s mode start (initialKey s start) newCount unkeyed (byMode mode false true)) (noLink s mode))
+    go true h = (placed-length start (omega (arith, eqb-true (length start) (keyLength s) h, key-most s)), placed-length (initialKey s start) (omega (arith, initialKey-length s start, key-most s)), omega arith, unkeyed-sized)
+    go false h = (refl, refl, omega arith, zeros-sized)
+
+-- n key changes fill the places
+changed-places : (l : Link) (n : ℕ) → Sized l → length (placed (changes (l .strength) (startKeyIn l) n (sessionKeyIn l))) ≡ 16
+changed-places l n (hs, hk, hc, hb) =
+    let session : length (sessionKeyIn l) ≡ keyLength (l .strength) = length-take-le (keyLength (l .strength)) (l .session) (omega (arith, key-most (l .strength))) in
+    let key = changes-length (l .strength) (startKeyIn l) n (sessionKeyIn l) session in
+    placed-length (changes (l .strength) (startKeyIn l) n (sessionKeyIn l)) (omega (arith, key, key-most (l .strength)))
+
+picked-sized : (t : Bool) (a b : Rc4) → StateSized a → StateSized b → StateSized (pick t a b)
+picked-sized true a b ha hb = ha
+picked-sized false a b ha hb = hb
+
+kept-sized : (l : Link) (drawn : Rc4) → StateSized (l .state) → StateSized drawn → StateSized (keptBox l drawn)
+kept-sized l drawn ha hb = by (l .mode)
+  where
+    by : (m : Mode) → StateSized (byMode m (l .state) drawn)
+    by Stateless = ha
+    by Stateful = hb
+
+done-sized : (n : ℕ) (a b : Rc4) → StateSized a → StateSized b → StateSized (onDone n a b)
+done-sized zero a b ha hb = ha
+done-sized (suc n) a b ha hb = hb
 
 kept : (code : ℕ) (r : Result) (l : Link) (out : List ℕ) → Sized (r .outcome .link) → Sized l → Sized (onDone code r (refusal code l out) .outcome .link)
 kept zero r l out made held = made
 kept (suc n) r l out made held = held
 
 pub seal-sized : (limit : ℕ) (l : Link) (plain out : List ℕ) → Sized l → Sized (sealResult limit l plain out .outcome .link)
-unfolding sealResult
-seal-sized limit l plain out (hs, hk, hc) =
-    let key : length (nextKey l) ≡ keyLength (l .strength) = keyChange-length (l .strength) (startKeyIn l) (sessionKeyIn l) in
-    let places = placed-length (nextKey l) (omega (arith, key-most (l .strength))) in
-    kept (sealCode limit l plain (length out)) _ l out (hs, places, omega arith) (hs, hk, hc)
+unfolding sealResult nextBox nextKey
+seal-sized limit l plain out (hs, hk, hc, hb) =
+    let used = picked-sized (keysAfresh l) (keySchedule (nextKey l)) (l .state) (keyed-sized (nextKey l)) hb in
+    let left = kept-sized l (after (nextBox l) plain) hb (after-sized (nextBox l) plain used) in
+    kept (sealCode limit l plain (length out)) _ l out (hs, changed-places l (nextChanges l) (hs, hk, hc, hb), omega arith, left) (hs, hk, hc, hb)
+
+waited-kept : (code : ℕ) (r w : Result) (l : Link) (out : List ℕ) → Sized (r .outcome .link) → Sized (w .outcome .link) → Sized l
+    → Sized (onDone code r (pick (eqb code waiting) w (refusal code l out)) .outcome .link)
+waited-kept zero r w l out made wait held = made
+waited-kept (suc n) r w l out made wait held = by (eqb (suc n) waiting)
+  where
+    by : (t : Bool) → Sized (pick t w (refusal (suc n) l out) .outcome .link)
+    by true = wait
+    by false = held
 
 pub open-sized : (limit far : ℕ) (l : Link) (packet out : List ℕ) → Sized l → Sized (openResult limit far l packet out .outcome .link)
-unfolding openResult keyFor
-open-sized limit far l packet out (hs, hk, hc) =
-    let session : length (sessionKeyIn l) ≡ keyLength (l .strength) = length-take-le (keyLength (l .strength)) (l .session) (omega (arith, key-most (l .strength))) in
+unfolding openResult keyFor stateFor boxFor
+open-sized limit far l packet out (hs, hk, hc, hb) =
     let h : ℕ = headerIn packet in
-    let key : length (keyFor l h) ≡ keyLength (l .strength) = changes-length (l .strength) (startKeyIn l) (changesFor l h) (sessionKeyIn l) session in
-    let places = placed-length (keyFor l h) (omega (arith, key-most (l .strength))) in
-    kept (openCode limit far l packet (length out)) _ l out (hs, places, omega arith) (hs, hk, hc)
+    let places = changed-places l (changesFor l h) (hs, hk, hc, hb) in
+    let held = done-sized (changesFor l h) (l .state) (keySchedule (keyFor l h)) hb (keyed-sized (keyFor l h)) in
+    let used = picked-sized (lacks bitA h) (boxFor l h) (keySchedule (keyFor l h)) held (keyed-sized (keyFor l h)) in
+    let left = kept-sized l (after (stateFor l h) (dataIn packet)) hb (after-sized (stateFor l h) (dataIn packet) used) in
+    waited-kept (openCode limit far l packet (length out)) _ (waited l h out) l out (hs, places, omega arith, left) (hs, places, omega arith, held) (hs, hk, hc, hb)
+
+pub reset-sized : (l : Link) (request : List ℕ) → Sized l → Sized (resetOutcome l request .link)
+unfolding resetOutcome
+reset-sized l request h = by (resetCode l request)
+  where
+    by : (code : ℕ) → Sized (onDone code (withBox l (l .state) (byMode (l .mode) (l .waiting) true)) l)
+    by zero = h
+    by (suc n) = h

@@ -1,116 +1,223 @@
 // The fixed cases: new links, records read, RFC 3079's message, distances, and every way to be refused.
-ghost use Prim.Native.Nat.{_<_};
+ghost use Prim.Native.Nat.{_<_, _≤_};
 use crate::LENT;
 use crate::Trial;
+use crate::counted;
 use crate::fresh;
-use crate::headed;
+use crate::last_packet;
 use crate::least;
 use crate::new_link;
 use crate::open_within;
 use crate::seal_within;
+use crate::shown::headed;
+use crate::shown::show;
+use crate::shown::show_digest;
+use crate::shown::show_opened;
+use crate::shown::show_reset;
+use crate::shown::show_whole;
 use crate::struck;
 use mppe::Link;
-use mppe::Outcome;
+use mppe_keys::Mode;
 use mppe_keys::Strength;
 use mppe_record::record_octets;
+
+// Where a record's mode stands, and its mark; RC4's indices are behind it.
+const MODE_AT: usize = 35;
+
+const MARK_AT: usize = 36;
 
 // What a case of a number is about.
 enum Kind {
     NewLink,
     Octets,
     Bits,
+    Marks,
     Rows,
     Record,
     Room,
     Length,
     Flags,
     Protocol,
+    Reset,
 }
 
-// Every fixed case at one strength.
-pub fn all(strength: Strength) {
-    headed(strength);
-    each(strength, Kind::NewLink, 0, 18);
-    each(strength, Kind::Octets, 33, 38);
-    each(strength, Kind::Bits, 38, 59);
-    each(strength, Kind::Bits, 126, 131);
-    show_sample(fresh(strength), strength);
-    distances(strength);
-    arrivals(strength);
-    each(strength, Kind::Rows, 0, 96);
-    each(strength, Kind::Record, 0, 36);
-    each(strength, Kind::Room, 4, 25);
-    each(strength, Kind::Length, 4, 13);
-    each(strength, Kind::Length, 1500, 1506);
-    each(strength, Kind::Flags, 0, 16);
-    each(strength, Kind::Protocol, 0, 11);
+// Every fixed case at one strength and in one mode.
+pub fn all(strength: Strength, mode: Mode) {
+    headed(strength, mode);
+    read_and_made(steady(strength, mode));
+    measured(strength, fresh(strength, mode));
+    refusals(steady(strength, mode));
 }
 
-// The cases of a kind in a range of numbers.
-fn each(strength: Strength, kind: Kind, from: usize, to: usize) {
-    report::numbered(b"cases from", from, 0, b"");
-    for n in from..to {
-        case(fresh(strength), kind, n);
+// A stateful link's first packet, under the initial session key: behind the protocol number it is the sample's message.
+pub fn first_packet(link: Link) {
+    let mut wire = [0u8; 16];
+    let made = link.seal(b"\x00\x21st message", &mut wire);
+    show(b"first packet", 0, made, &wire);
+}
+
+// The sets of rows in which a stateful link is waiting.
+pub fn waiting_rows(strength: Strength) {
+    each(steady(strength, Mode::Stateful), Kind::Rows, 128, 224);
+}
+
+// Links made, and records read.
+fn read_and_made(link: Link) {
+    each(link, Kind::NewLink, 0, 18);
+    each(link, Kind::Octets, 35, 36);
+    each(link, Kind::Octets, 293, 298);
+    each(link, Kind::Bits, 38, 59);
+    each(link, Kind::Bits, 126, 131);
+    each(link, Kind::Marks, 0, 16);
+}
+
+// What a new link opens: RFC 3079's message, and packets of counts near and far.
+fn measured(strength: Strength, first: Link) {
+    show_sample(first, strength);
+    distances(first);
+    arrivals(first);
+}
+
+// Every way to be refused, from a link whose next packet has count 0.
+fn refusals(link: Link) {
+    each(link, Kind::Rows, 0, 96);
+    each(link, Kind::Record, 0, 42);
+    each(link, Kind::Room, 4, 25);
+    each(link, Kind::Length, 4, 13);
+    each(link, Kind::Length, 1500, 1506);
+    each(link, Kind::Flags, 0, 16);
+    each(link, Kind::Protocol, 0, 11);
+    each(link, Kind::Reset, 0, 22);
+}
+
+// The link of most cases, whose next packet has count 0: a new one, or a stateful one that has sealed a packet and is not waiting.
+fn steady(strength: Strength, mode: Mode) -> Link {
+    let first = fresh(strength, mode);
+    match mode {
+        Mode::Stateless => first,
+        Mode::Stateful => begun(first),
     }
 }
 
-// One case, with a new link.
+// A link that has sealed a packet, with the count of a new one.
+fn begun(first: Link) -> Link {
+    let sent = last_packet(first, 1);
+    counted(sent.link, 4095)
+}
+
+// The cases of a kind in a range of numbers.
+fn each(link: Link, kind: Kind, from: usize, to: usize) {
+    report::numbered(b"cases from", from, 0, b"");
+    for n in from..to {
+        case(link, kind, n);
+    }
+}
+
+// One case with a link.
 fn case(link: Link, kind: Kind, n: usize) {
     match kind {
         Kind::NewLink => show_new(link, n),
         Kind::Octets => show_read(n, record_octets(link), n),
-        Kind::Bits => show_read(n, with_bits(record_octets(link), n), 35),
-        _ => both(n, link, record_of(link, kind, n), trial_of(kind, n)),
+        Kind::Bits => show_read(n, with_bits(record_octets(link), n), 295),
+        Kind::Marks => show_read(n, with_marks(record_octets(link), n), 295),
+        Kind::Record => all_calls(n, link, altered(link, n)),
+        Kind::Reset => show_request(n, counted_if(11 <= n, link)),
+        _ => both(n, link, record_of(link, kind, n), trial_of(link, kind, n)),
     }
 }
 
 // The record of a case.
 fn record_of(link: Link, kind: Kind, n: usize) -> Link {
     match kind {
-        Kind::Rows => counted_if(n % 2 == 1, link),
-        Kind::Record => altered(link, n),
+        Kind::Rows => counted_if(n % 2 == 1, turned_if(128 <= n, link, MARK_AT)),
         _ => link,
     }
 }
 
 // What a case lends. A length is that of the sealed packet, and a room that for it.
-fn trial_of(kind: Kind, n: usize) -> Trial {
+fn trial_of(link: Link, kind: Kind, n: usize) -> Trial {
+    let mode = link.mode;
     match kind {
-        Kind::Rows => rows(n),
+        Kind::Rows => rows(n, flags_of(mode)),
         Kind::Room => lent(18, n),
         Kind::Length => lent(n, 1520),
-        Kind::Flags => flags(n),
+        Kind::Flags => flags(n, flags_of(mode)),
         Kind::Protocol => protocol(n),
         _ => lent(18, 18),
+    }
+}
+
+// The flags of a packet: A and D, or in stateful mode D alone.
+fn flags_of(mode: Mode) -> u8 {
+    match mode {
+        Mode::Stateless => 0x90,
+        Mode::Stateful => 0x10,
     }
 }
 
 // A new link of a start key of n octets.
 fn show_new(link: Link, n: usize) {
     let strength = link.strength;
-    let made = new_link(strength, n);
-    let begun = made.link;
-    report::numbered(b"link", n, made.answer, &record_octets(begun));
+    let mode = link.mode;
+    let made = new_link(strength, mode, n);
+    show_whole(b"link", n, made.answer, made.link);
 }
 
 // A record's octets with another number of bits.
-fn with_bits(octets: [u8; 35], bits: usize) -> [u8; 35] {
+fn with_bits(octets: [u8; 295], bits: usize) -> [u8; 295] {
     let mut out = octets;
     out[0] = (bits % 256) as u8;
     out
 }
 
-// What is read of the first octets of a record, and zeros behind it.
-fn show_read(n: usize, octets: [u8; 35], given: usize) {
-    let mut lent = [0u8; 40];
-    octets::copy(&octets, &mut lent);
-    let end = least(given, 40);
-    let read = mppe_record::read_record(&lent[0..end]);
-    let link = read.link;
-    report::numbered(b"read", n, read.answer, &record_octets(link));
+// A record's octets with another mode and mark.
+fn with_marks(octets: [u8; 295], n: usize) -> [u8; 295] {
+    let mut out = octets;
+    out[MODE_AT] = mark(n / 4);
+    out[MARK_AT] = mark(n % 4);
+    out
 }
 
-// A plain packet sealed, and the first packet of a link opened, both with one record and as one trial says.
+// An octet for a mode or a mark.
+fn mark(i: usize) -> u8 {
+    octet_at(b"\x00\x01\x02\xff", i)
+}
+
+// What is read of the first octets of a record, and zeros behind it.
+fn show_read(n: usize, octets: [u8; 295], given: usize) {
+    let mut lent = [0u8; 300];
+    octets::copy(&octets, &mut lent);
+    let end = least(given, 300);
+    let read = mppe_record::read_record(&lent[0..end]);
+    show_whole(b"read", n, read.answer, read.link);
+}
+
+// Every call with one record, each of them a good one with the link.
+fn all_calls(n: usize, first: Link, link: Link) {
+    both(n, first, link, lent(18, 18));
+    show_reset(n, link, b"\x0e\x07\x00\x04");
+}
+
+// A Reset-Request with an octet altered, or of 0 to 6 octets.
+fn show_request(n: usize, link: Link) {
+    let mut request = [14, 7, 0, 4, 0, 0];
+    let case = n % 11;
+    if case < 4 {
+        request[case] = request[case] ^ 1;
+        show_part(n, link, request, 4);
+    } else {
+        show_part(n, link, request, case - 4);
+    }
+}
+
+// A Reset-Request of the first octets of some.
+fn show_part(n: usize, link: Link, octets: [u8; 6], given: usize)
+    requires { ⌜ given ≤ 6 ⌝ }
+{
+    show_reset(n, link, &octets[0..given]);
+}
+
+// A plain packet sealed, and the next packet of a link opened, both with one record and as one trial says.
 fn both(n: usize, first: Link, link: Link, trial: Trial) {
     let given = trial.given;
     let room = trial.room;
@@ -158,24 +265,6 @@ fn show_open(n: usize, link: Link, packet: [u8; LENT], given: usize, room: usize
     show_digest(b"open", n, made, &out);
 }
 
-// Prints what a call gave, with the digest of the buffer.
-fn show_digest(label: &[u8], n: usize, made: Outcome, out: &[u8]) {
-    let digest = sha1::sha1(out);
-    show(label, n, made, &digest.octets);
-}
-
-// Prints what a call gave.
-fn show(label: &[u8], n: usize, made: Outcome, out: &[u8]) {
-    let link = made.link;
-    report::numbered(label, n, made.answer, out);
-    report::numbered(
-        b"link",
-        made.changes as usize,
-        made.answer,
-        &record_octets(link),
-    );
-}
-
 // Nothing turned over.
 fn lent(given: usize, room: usize) -> Trial {
     Trial {
@@ -185,10 +274,11 @@ fn lent(given: usize, room: usize) -> Trial {
     }
 }
 
-// A set of rows: 1 record, 2 size and shape, 4 flags, 8 room, 16 protocol, and 32 repeat or 64 late, which never apply together.
-fn rows(set: usize) -> Trial {
+// A set of rows: 1 record, 2 size and shape, 4 flags, 8 room, 16 protocol, 32 repeat or 64 late, which never apply together, and 128
+// waiting, in stateful mode.
+fn rows(set: usize, flags: u8) -> Trial {
     let short = set / 8 % 2;
-    let high = if_in(set / 4, 0x90) ^ if_in(set / 32, 0x0F) ^ if_in(set / 64, 0x0F);
+    let high = if_in(set / 4, flags) ^ if_in(set / 32, 0x0F) ^ if_in(set / 64, 0x0F);
     let mask = [0, 0, high, if_in(set / 32, 0xFF), if_in(set / 16, 0xFF), 0];
     if set / 2 % 2 == 1 {
         return Trial {
@@ -210,12 +300,12 @@ fn if_in(set: usize, mask: u8) -> u8 {
 }
 
 // A setting of the bits A to D.
-fn flags(bits: usize) -> Trial {
+fn flags(bits: usize, usual: u8) -> Trial {
     let setting = (bits % 16 * 16) as u8;
     Trial {
         given: 18,
         room: 18,
-        mask: [0, 0, setting ^ 0x90, 0, 0, 0],
+        mask: [0, 0, setting ^ usual, 0, 0, 0],
     }
 }
 
@@ -243,96 +333,99 @@ fn counted_if(wrong: bool, link: Link) -> Link {
     link
 }
 
-// A link with another count.
-fn counted(link: Link, count: u16) -> Link {
-    let mut next = link;
-    next.count = count;
-    next
+// A link as it is, or with a bit of one octet of its record turned over.
+fn turned_if(wrong: bool, link: Link, at: usize) -> Link
+    requires { ⌜ at < 295 ⌝ }
+{
+    let mut octets = record_octets(link);
+    if wrong {
+        octets[at] = octets[at] ^ 1;
+    }
+    read_back(octets)
 }
 
-// Record number v: one place of the start key altered, one of the session key, another count, or a refused new link.
+// The record that octets hold.
+fn read_back(octets: [u8; 295]) -> Link {
+    let read = mppe_record::read_record(&octets);
+    read.link
+}
+
+// Record number v: one place of the start key altered, one of the session key, another count, the mode, the mark or an index altered, one
+// cell with what the next one has, two cells exchanged, or a refused new link.
 fn altered(link: Link, v: usize) -> Link {
-    if v < 16 {
-        return other_start(link, v);
-    }
     if v < 32 {
-        return other_session(link, v - 16);
+        return turned_if(true, link, 1 + v);
     }
-    if v == 32 {
-        return counted(link, 4096);
+    if v < MODE_AT {
+        return counted(link, count_of(v));
     }
-    if v == 33 {
-        return counted(link, 65535);
+    if v < 39 {
+        return turned_if(true, link, v);
     }
-    if v == 34 {
-        return counted(link, 4094);
+    if v < 41 {
+        return with_cells(link, v == 40);
     }
     let strength = link.strength;
-    let refused = Link::new(strength, &[]);
+    let mode = link.mode;
+    let refused = Link::new(strength, mode, &[]);
     refused.link
 }
 
-// A link with one place of its start key altered.
-fn other_start(link: Link, at: usize) -> Link
-    requires { ⌜ at < 16 ⌝ }
-{
-    let mut next = link;
-    let start = link.start;
-    let other = turned(start, at);
-    next.start = other;
-    next
+// The count of record number v.
+fn count_of(v: usize) -> u16 {
+    match v {
+        32 => 4096,
+        33 => 65535,
+        _ => 4094,
+    }
 }
 
-// A link with one place of its session key altered.
-fn other_session(link: Link, at: usize) -> Link
-    requires { ⌜ at < 16 ⌝ }
-{
-    let mut next = link;
-    let session = link.session;
-    let other = turned(session, at);
-    next.session = other;
-    next
-}
-
-// A key with one bit of one place turned over.
-fn turned(key: [u8; 16], at: usize) -> [u8; 16]
-    requires { ⌜ at < 16 ⌝ }
-{
-    let mut out = key;
-    out[at] = out[at] ^ 1;
-    out
+// A link whose cell 20 holds what cell 21 does; with both exchanged, cell 21 holds what the other did.
+fn with_cells(link: Link, exchanged: bool) -> Link {
+    let mut octets = record_octets(link);
+    let held = octets[59];
+    octets[59] = octets[60];
+    if exchanged {
+        octets[60] = held;
+    }
+    read_back(octets)
 }
 
 // The distances of K1 to K5, and those at the limits of what is opened, from counts about the wrap.
-fn distances(strength: Strength) {
-    ahead(strength, 4095, 1);
-    ahead(strength, 2, 3);
-    ahead(strength, 4094, 3);
-    ahead(strength, 0, 4095);
-    ahead(strength, 7, 4096);
-    at_limits(strength, 0);
-    at_limits(strength, 255);
-    at_limits(strength, 2047);
-    at_limits(strength, 2048);
-    at_limits(strength, 4094);
-    at_limits(strength, 4095);
+fn distances(first: Link) {
+    ahead(first, 4095, 1);
+    ahead(first, 2, 3);
+    ahead(first, 4094, 3);
+    ahead(first, 0, 4095);
+    ahead(first, 7, 4096);
+    at_limits(first, 0);
+    at_limits(first, 255);
+    at_limits(first, 2047);
+    at_limits(first, 2048);
+    at_limits(first, 4094);
+    at_limits(first, 4095);
 }
 
 // The distances at the limits of what is opened.
-fn at_limits(strength: Strength, last: u16) {
-    ahead(strength, last, 1);
-    ahead(strength, last, 2047);
-    ahead(strength, last, 2048);
-    ahead(strength, last, 2049);
-    ahead(strength, last, 4095);
+fn at_limits(first: Link, last: u16) {
+    ahead(first, last, 1);
+    ahead(first, last, 2047);
+    ahead(first, last, 2048);
+    ahead(first, last, 2049);
+    ahead(first, last, 4095);
 }
 
-// Packets sealed from a count made by hand, and the last of them opened by a link with that count: as it is and with another protocol
-// number inside, each with room and without.
-fn ahead(strength: Strength, last: u16, packets: usize) {
-    let link = counted(fresh(strength), last);
-    let wire = last_packet(link, packets);
+// Packets sealed from a count made by hand, and the last of them opened by a link with that count.
+fn ahead(first: Link, last: u16, packets: usize) {
+    let link = counted(first, last);
+    let sent = last_packet(link, packets);
+    let wire = sent.wire;
     report::numbered(b"last count", last as usize, 0, &wire);
+    open_each(link, packets, wire);
+}
+
+// A packet opened as it is and with another protocol number inside, each with room and without.
+fn open_each(link: Link, packets: usize, wire: [u8; 18]) {
     show_opened(b"opened after packets", packets, link, &wire, 14);
     show_opened(b"without room", packets, link, &wire, 13);
     let other = other_protocol(wire);
@@ -349,8 +442,7 @@ fn other_protocol(wire: [u8; 18]) -> [u8; 18] {
 
 // Packets of a new link, as they arrive on a line that loses 2,047 in a row from the start and again across the wrap, and brings some
 // behind others: the last one opened is then one, two, and 2,047 ahead.
-fn arrivals(strength: Strength) {
-    let first = fresh(strength);
+fn arrivals(first: Link) {
     let lossy = arrival(first, first, 2047);
     let ahead = arrival(first, lossy, 2049);
     let late = arrival(first, ahead, 2048);
@@ -365,37 +457,8 @@ fn arrivals(strength: Strength) {
 // A packet of a link opened by a receiver, and the receiver's record behind it.
 fn arrival(first: Link, receiver: Link, number: u16) -> Link {
     let packet = number as usize;
-    show_opened(
-        b"arrival of packet",
-        packet,
-        receiver,
-        &last_packet(first, packet + 1),
-        14,
-    )
-}
-
-// Opens a packet of the message, and prints what it gave.
-fn show_opened(label: &[u8], n: usize, link: Link, packet: &[u8], room: usize) -> Link {
-    let mut out = [0xEEu8; 14];
-    let made = open_within(link, packet, packet.len(), &mut out, room);
-    show(label, n, made, &out);
-    made.link
-}
-
-// The last of some packets sealed one after the other.
-fn last_packet(link: Link, packets: usize) -> [u8; 18] {
-    let mut sender = link;
-    let mut wire = [0xEEu8; 18];
-    for _ in 0..packets {
-        let made = seal_message(sender, &mut wire);
-        sender = made.link;
-    }
-    wire
-}
-
-// Seals the message of RFC 3079, 3.5, behind a protocol number.
-fn seal_message(link: Link, out: &mut [u8]) -> Outcome {
-    link.seal(b"\x00\x21test message", out)
+    let sent = last_packet(first, packet + 1);
+    show_opened(b"arrival of packet", packet, receiver, &sent.wire, 14)
 }
 
 // The sample's encrypted message behind a header of count 0, opened.
@@ -416,7 +479,7 @@ fn show_sample(link: Link, strength: Strength) {
     }
 }
 
-// Opens a packet under the initial session key, which no packet has.
+// Opens a packet under the initial session key, which no stateless packet has.
 fn open_sample(link: Link, packet: &[u8]) {
     show_opened(
         b"message under the initial session key",

@@ -1,12 +1,14 @@
-// Links, packets sealed and opened, and every set of rows that refuse them.
-ghost use Prim.Native.Nat.{_<_, _≤_};
-use libc::STDOUT_FILENO;
+// Links in both modes, packets sealed and opened, Reset-Requests, and every set of rows that refuse them.
+ghost use Prim.Native.Nat.{_≤_};
 use mppe::Link;
 use mppe::NewLink;
 use mppe::Outcome;
+use mppe_keys::Mode;
 use mppe_keys::Strength;
 
 mod cases;
+mod runs;
+mod shown;
 
 // The octets of a buffer, more than any packet has.
 const LENT: usize = 1600;
@@ -20,34 +22,73 @@ struct Trial {
 
 // All cases, in the order of tests/mppe.c.
 fn main() {
-    cases::all(Strength::Bits40);
-    cases::all(Strength::Bits56);
-    cases::all(Strength::Bits128);
+    both_modes(Strength::Bits40);
+    both_modes(Strength::Bits56);
+    both_modes(Strength::Bits128);
+}
+
+// The cases at one strength.
+fn both_modes(strength: Strength) {
+    cases::all(strength, Mode::Stateless);
+    cases::all(strength, Mode::Stateful);
+    cases::first_packet(fresh(strength, Mode::Stateful));
+    cases::waiting_rows(strength);
+    runs::all(fresh(strength, Mode::Stateful));
 }
 
 // A new link of the samples' start key.
-fn fresh(strength: Strength) -> Link {
+fn fresh(strength: Strength, mode: Mode) -> Link {
     let made = match strength {
-        Strength::Bits40 => new_link(strength, 8),
-        Strength::Bits56 => new_link(strength, 8),
-        Strength::Bits128 => new_link(strength, 16),
+        Strength::Bits40 => new_link(strength, mode, 8),
+        Strength::Bits56 => new_link(strength, mode, 8),
+        Strength::Bits128 => new_link(strength, mode, 16),
     };
     made.link
 }
 
 // A new link of the first n octets of the start key of RFC 3079, 3.5.3, of which 3.5.1 and 3.5.2 have eight, and one octet more.
-fn new_link(strength: Strength, n: usize) -> NewLink {
+fn new_link(strength: Strength, mode: Mode, n: usize) -> NewLink {
     linked(
         strength,
+        mode,
         b"\x8b\x7c\xdc\x14\x9b\x99\x3a\x1b\xa1\x18\xcb\x15\x3f\x56\xdc\xcb\x5a",
         n,
     )
 }
 
 // A new link of the first n octets of a key, as far as they go.
-fn linked(strength: Strength, start: &[u8], n: usize) -> NewLink {
+fn linked(strength: Strength, mode: Mode, start: &[u8], n: usize) -> NewLink {
     let given = least(n, start.len());
-    Link::new(strength, &start[0..given])
+    Link::new(strength, mode, &start[0..given])
+}
+
+// A link with another count.
+fn counted(link: Link, count: u16) -> Link {
+    let mut next = link;
+    next.count = count;
+    next
+}
+
+// Packets of the message of RFC 3079, 3.5, sealed one after the other: the last of them, and the sender's record after it.
+struct Sent {
+    wire: [u8; 18],
+    link: Link,
+}
+
+// Seals so many of them.
+fn last_packet(link: Link, packets: usize) -> Sent {
+    let mut sender = link;
+    let mut wire = [0xEEu8; 18];
+    for _ in 0..packets {
+        let made = seal_message(sender, &mut wire);
+        sender = made.link;
+    }
+    Sent { wire, link: sender }
+}
+
+// Seals the message behind a protocol number.
+fn seal_message(link: Link, out: &mut [u8]) -> Outcome {
+    link.seal(b"\x00\x21test message", out)
 }
 
 // Seals the first n octets of a packet into the first octets of a buffer, as far as they go.
@@ -81,17 +122,4 @@ fn struck(octets: [u8; LENT], mask: [u8; 6]) -> [u8; LENT] {
     out[4] = out[4] ^ mask[4];
     out[5] = out[5] ^ mask[5];
     out
-}
-
-// Prints the bits of a strength.
-fn headed(strength: Strength) {
-    io::print_decimal(STDOUT_FILENO, index(mppe_record::bits_of(strength)) as u64);
-    io::write_all(STDOUT_FILENO, b" bits\n");
-}
-
-// An octet as a number.
-fn index(x: u8) -> usize
-    ensures { λ r. ⌜ r < 256 ⌝ }
-{
-    x as usize
 }

@@ -93,6 +93,7 @@ fn main() {
     keys();
     draws();
     permutations();
+    unkeyed();
     buffers();
     lengths();
     parts();
@@ -282,6 +283,48 @@ fn with_repeated(state: Rc4, n: usize) -> Rc4
     let mut cells = state.cells;
     cells[n] = cells[(n + 1) % 256];
     Rc4 { cells, i: 0, j: 0 }
+}
+
+// Whether states are unkeyed: that one, with an index that is not 0, with two cells exchanged, with a repeated cell, of a key, of zeros.
+fn unkeyed() {
+    let s = Rc4::unkeyed();
+    show_unkeyed(b"unkeyed state", s);
+    show_unkeyed(b"with another i", with_indices(s, 1, 0));
+    show_unkeyed(b"with another j", with_indices(s, 0, 128));
+    show_unkeyed(b"with two cells exchanged", with_last_exchanged(s));
+    show_unkeyed(b"with a repeated cell", with_repeated(s, 0));
+    let k = Rc4::keyed(&COUNTED[..16]);
+    show_unkeyed(b"state of a key", k.state);
+    let refused = Rc4::keyed(b"");
+    show_unkeyed(b"state of zeros", refused.state);
+}
+
+// Prints 1 for the unkeyed state and else 0, and a state's cells and indices.
+fn show_unkeyed(label: &[u8], state: Rc4) {
+    let cells = state.cells;
+    let mut octets = [0u8; 258];
+    octets::copy(&cells, &mut octets);
+    octets::copy_at(&[state.i, state.j], 256, &mut octets);
+    report::line(label, if state.is_unkeyed() { 1 } else { 0 }, &octets);
+}
+
+// A state with other indices.
+fn with_indices(state: Rc4, i: u8, j: u8) -> Rc4 {
+    let cells = state.cells;
+    Rc4 { cells, i, j }
+}
+
+// A state with its last two cells exchanged.
+fn with_last_exchanged(state: Rc4) -> Rc4 {
+    let mut cells = state.cells;
+    let last = cells[255];
+    cells[255] = cells[254];
+    cells[254] = last;
+    Rc4 {
+        cells,
+        i: state.i,
+        j: state.j,
+    }
 }
 
 // Lent buffers longer than the text, as long, and one octet too short; an empty text.

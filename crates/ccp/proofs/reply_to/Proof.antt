@@ -11,7 +11,7 @@ reply-of-requires c κs = search needs
 
 returns : tie.Need-returns
 returns c = let e = c .reply-of .ensures in
-    let told = reply-told (now (c .before .before .args .option)) (c .before .before .args .allowed) in
+    let told = reply-told (now (c .before .before .args .option)) (c .before .before .args .allowed) (c .before .before .args .stateful) in
     (e, ap replyCodeOf e ∙ told .0, ap replyWord e ∙ told .1)
 
 pub reply-to-spec : {M : Type 1} → statement M

@@ -4,10 +4,10 @@ use Rattle.ccp_samples.proofs.replies.Statement.{statement}
 use Rattle.ccp_samples.proofs.replies.Tie as tie
 
 abbrev Inv-loop : tie.InvT-loop
-Inv-loop i₀ i = i ≤ 512
+Inv-loop i₀ i = i ≤ 1024
 
 abbrev μ-loop : tie.MeasureT-loop
-μ-loop i₀ i = 512 - i
+μ-loop i₀ i = 1024 - i
 
 loop-holds : tie.Need-loop-holds Inv-loop μ-loop
 loop-holds c = search needs

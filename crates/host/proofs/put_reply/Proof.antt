@@ -26,16 +26,20 @@ returns c =
 bits-of-requires : tie.Need-bits-of-requires
 bits-of-requires c κs = search needs
 
+is-stateful-requires : tie.Need-is-stateful-requires
+is-stateful-requires c κs = search needs
+
 same-length-2 : tie.Need-same-length-2
 same-length-2 c = search needs
 
 returns-2 : tie.Need-returns-2
 returns-2 c =
-    let tested = c .before in
+    let told = c .before in
+    let tested = told .before in
     let wrote = tested .before .before .before in
     let picked = wrote .before .before in
     let w = choice-written _ _ (picked .only .ensures) (wrote .write .ensures) in
-    (choice-replied _ _ (w .0) (tested .if1 .left) (c .bits-of .ensures), w .1)
+    (choice-replied _ _ (w .0) (tested .if1 .left) (told .bits-of .ensures) (c .is-stateful .ensures), w .1)
 
 pub put-reply-spec : {M : Type 1} → statement M
 put-reply-spec =
@@ -47,5 +51,6 @@ put-reply-spec =
     same-length
     returns
     bits-of-requires
+    is-stateful-requires
     same-length-2
     returns-2)

@@ -15,6 +15,9 @@ returns c = none-given _ _ (none-first _ (sym (c .before .no-strength .ensures) 
 strength-of-requires : tie.Need-strength-of-requires
 strength-of-requires c κs = search needs
 
+mode-if-requires : tie.Need-mode-if-requires
+mode-if-requires c κs = search needs
+
 new-requires : tie.Need-new-requires
 new-requires c κs = search needs
 
@@ -35,10 +38,11 @@ returns-2 c =
     let gave = c .before .before in
     let laid = gave .before .before .before in
     let made = laid .before .before in
-    let picked = made .before in
+    let mode = made .before in
+    let picked = mode .before in
     let tested = picked .before in
     let asked = tested .before in
-    new-given _ _ _ (sym (asked .no-strength .ensures) ∙ tested .if1 .left) (picked .strength-of .ensures) (made .new .ensures)
+    new-given _ _ _ _ (sym (asked .no-strength .ensures) ∙ tested .if1 .left) (picked .strength-of .ensures) (mode .mode-if .ensures) (made .new .ensures)
     (laid .record-octets .ensures) (gave .give .ensures)
 
 pub udukemb-new-link-spec : {M : Type 1} → statement M
@@ -48,6 +52,7 @@ udukemb-new-link-spec =
     no-strength-requires
     returns
     strength-of-requires
+    mode-if-requires
     new-requires
     record-octets-requires
     slice-aggregate-give

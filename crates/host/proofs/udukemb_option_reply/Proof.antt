@@ -32,7 +32,7 @@ returns c =
     let put = c .before .before in
     let known = put .before .before .before in
     let asked = known .before .before in
-    replied _ _ _ (asked .reply-to .ensures .0) (known .choice .given .1) (put .put-reply .ensures)
+    replied _ _ _ _ (asked .reply-to .ensures .0) (known .choice .given .1) (put .put-reply .ensures)
 
 same-length-2 : tie.Need-same-length-2
 same-length-2 c = search needs
@@ -42,13 +42,13 @@ returns-2 c =
     let put = c .before .before in
     let known = put .before .before .before in
     let asked = known .before .before in
-    replied _ _ _ (asked .reply-to .ensures .0) (known .choice2 .given .1) (put .put-reply2 .ensures)
+    replied _ _ _ _ (asked .reply-to .ensures .0) (known .choice2 .given .1) (put .put-reply2 .ensures)
 
 returns-3 : tie.Need-returns-3
 returns-3 c =
     let known = c .before .before in
     let asked = known .before .before in
-    replied _ _ _ (asked .reply-to .ensures .0) (known .number .given .1) (reply-refused _ _ (c .refused-reply .ensures))
+    replied _ _ _ _ (asked .reply-to .ensures .0) (known .number .given .1) (reply-refused _ _ (c .refused-reply .ensures))
 
 pub udukemb-option-reply-spec : {M : Type 1} → statement M
 udukemb-option-reply-spec =

@@ -1,20 +1,19 @@
-use Rattle.octets.specs.Laws.{count}
-use Rattle.mppe.proofs.Laws.{pair-runs}
 use borrow.Author.Needs.{needs}
+use Rattle.mppe.proofs.Laws.{pair-runs}
 use Rattle.mppe.proofs.runs_off_protocol.Statement.{statement}
 use Rattle.mppe.proofs.runs_off_protocol.Tie as tie
 
-slice-aggregate-run : tie.Need-slice-aggregate-run
-slice-aggregate-run c = count 2 (c .before .before .args .text .now) (c .before .before .pre)
+next-two-requires : tie.Need-next-two-requires
+next-two-requires c κs = search needs
 
-slice-aggregate-run-2 : tie.Need-slice-aggregate-run-2
-slice-aggregate-run-2 c = search needs
-
-run-requires : tie.Need-run-requires
-run-requires c κs = search needs
+shared-slice-read-off-protocol : tie.Need-shared-slice-read-off-protocol
+shared-slice-read-off-protocol c = search needs
 
 array-read-off-protocol : tie.Need-array-read-off-protocol
 array-read-off-protocol c = search needs
+
+shared-slice-read-off-protocol-2 : tie.Need-shared-slice-read-off-protocol-2
+shared-slice-read-off-protocol-2 c = search needs
 
 array-read-off-protocol-2 : tie.Need-array-read-off-protocol-2
 array-read-off-protocol-2 c = search needs
@@ -23,18 +22,18 @@ off-protocol-requires : tie.Need-off-protocol-requires
 off-protocol-requires c κs = search needs
 
 returns : tie.Need-returns
-returns c = let ran = c .before .before in
-    let lent = ran .before .before in
-    pair-runs _ _ (ran .run .ensures .1) (c .off-protocol .ensures) (lent .before .before .pre)
+returns c = let two = c .before .before .before in
+    let s = two .before .before in
+    pair-runs (s .args .cipher) (s .args .text .now) (two .next-two .ensures) (c .off-protocol .ensures) (s .pre)
 
 pub runs-off-protocol-spec : {M : Type 1} → statement M
 runs-off-protocol-spec =
     tie.close
     (tie.spec
-    slice-aggregate-run
-    slice-aggregate-run-2
-    run-requires
+    next-two-requires
+    shared-slice-read-off-protocol
     array-read-off-protocol
+    shared-slice-read-off-protocol-2
     array-read-off-protocol-2
     off-protocol-requires
     returns)

@@ -1,5 +1,5 @@
-use Rattle.mppe.proofs.Laws.{fails, holds, well-count, well-start, well-session, well-last}
 use borrow.Author.Needs.{needs}
+use Rattle.mppe.proofs.Laws.{fails, holds, well-count, well-start, well-session, well-head, well-last}
 use Rattle.mppe.proofs.well_formed.Statement.{statement}
 use Rattle.mppe.proofs.well_formed.Tie as tie
 
@@ -34,14 +34,30 @@ begins-reduced-requires : tie.Need-begins-reduced-requires
 begins-reduced-requires c κs = search needs
 
 returns-4 : tie.Need-returns-4
-returns-4 c = let placed = c .before in
+returns-4 c = let begun = c .before in
+    let placed = begun .before in
+    let session = placed .before in
+    let started = session .before .before in
+    let start = started .before in
+    let size = start .before .before in
+    let counted = size .before in
+    well-head (counted .before .before .args .link) (size .key-length .ensures) (counted .if1 .left) (holds _ (start .zeros-from .ensures) (started .if2 .left))
+    (holds _ (session .zeros-from2 .ensures) (placed .if3 .left)) (fails _ (begun .begins-reduced .ensures) (c .if4 .taken))
+
+box-fits-requires : tie.Need-box-fits-requires
+box-fits-requires c κs = search needs
+
+returns-5 : tie.Need-returns-5
+returns-5 c = let headed = c .before .before in
+    let begun = headed .before in
+    let placed = begun .before in
     let session = placed .before in
     let started = session .before .before in
     let start = started .before in
     let size = start .before .before in
     let counted = size .before in
     well-last (counted .before .before .args .link) (size .key-length .ensures) (counted .if1 .left) (holds _ (start .zeros-from .ensures) (started .if2 .left))
-    (holds _ (session .zeros-from2 .ensures) (placed .if3 .left)) (c .begins-reduced .ensures)
+    (holds _ (session .zeros-from2 .ensures) (placed .if3 .left)) (holds _ (begun .begins-reduced .ensures) (headed .if4 .left)) (c .box-fits .ensures)
 
 pub well-formed-spec : {M : Type 1} → statement M
 well-formed-spec =
@@ -54,4 +70,6 @@ well-formed-spec =
     zeros-from-requires-2
     returns-3
     begins-reduced-requires
-    returns-4)
+    returns-4
+    box-fits-requires
+    returns-5)

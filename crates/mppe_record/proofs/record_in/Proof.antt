@@ -3,11 +3,20 @@ use Rattle.mppe_record.proofs.Laws.{record-read}
 use Rattle.mppe_record.proofs.record_in.Statement.{statement}
 use Rattle.mppe_record.proofs.record_in.Tie as tie
 
+shared-slice-read-stateful : tie.Need-shared-slice-read-stateful
+shared-slice-read-stateful c = search needs
+
+shared-slice-read-waiting : tie.Need-shared-slice-read-waiting
+shared-slice-read-waiting c = search needs
+
 shared-slice-read-strength-of : tie.Need-shared-slice-read-strength-of
 shared-slice-read-strength-of c = search needs
 
 strength-of-requires : tie.Need-strength-of-requires
 strength-of-requires c κs = search needs
+
+mode-if-requires : tie.Need-mode-if-requires
+mode-if-requires c κs = search needs
 
 sub-places : tie.Need-sub-places
 sub-places c = search needs
@@ -45,19 +54,36 @@ shared-slice-read-pair-2 c = search needs
 pair-requires : tie.Need-pair-requires
 pair-requires c κs = search needs
 
+sub-state-in : tie.Need-sub-state-in
+sub-state-in c = search needs
+
+part-state-in-start : tie.Need-part-state-in-start
+part-state-in-start c = search needs
+
+part-state-in-end : tie.Need-part-state-in-end
+part-state-in-end c = search needs
+
+state-in-requires : tie.Need-state-in-requires
+state-in-requires c κs = search needs
+
 returns : tie.Need-returns
-returns c =
-    let session = c .before .before .before in
+returns c = let count = c .before .before in
+    let session = count .before .before .before in
     let start = session .before .before in
-    let bits = start .before .before in
-    record-read _ (bits .strength-of .ensures) (start .places .ensures) (session .places2 .ensures) (c .pair .ensures)
+    let mode = start .before .before in
+    let bits = mode .before in
+    record-read _ (search needs) (bits .strength-of .ensures) (mode .mode-if .ensures) (start .places .ensures) (session .places2 .ensures) (count .pair .ensures)
+    (c .state-in .ensures)
 
 pub record-in-spec : {M : Type 1} → statement M
 record-in-spec =
     tie.close
     (tie.spec
+    shared-slice-read-stateful
+    shared-slice-read-waiting
     shared-slice-read-strength-of
     strength-of-requires
+    mode-if-requires
     sub-places
     part-places-start
     part-places-end
@@ -70,4 +96,8 @@ record-in-spec =
     add-pair
     shared-slice-read-pair-2
     pair-requires
+    sub-state-in
+    part-state-in-start
+    part-state-in-end
+    state-in-requires
     returns)

@@ -1,7 +1,7 @@
+use borrow.Author.Needs.{needs}
 use native.Mathlib.Omega.{arith}
 use Rattle.mppe.specs.Link.{farthest}
-use Rattle.mppe.proofs.Laws.{count-bound, data-refused, data-off, data-opened}
-use borrow.Author.Needs.{needs}
+use Rattle.mppe.proofs.Laws.{count-bound, data-waits, data-refused, data-off, data-opened}
 use Rattle.mppe.proofs.Link.open_data.Statement.{statement}
 use Rattle.mppe.proofs.Link.open_data.Tie as tie
 
@@ -11,61 +11,97 @@ distance-requires c κs = let s = c .before .before in (count-bound (s .args .se
 header-code-requires : tie.Need-header-code-requires
 header-code-requires c κs = search needs
 
-refused-requires : tie.Need-refused-requires
-refused-requires c κs = search needs
-
-returns : tie.Need-returns
-returns c = let judged = c .before .before in
-    let away = judged .before in
+changes-over-requires : tie.Need-changes-over-requires
+changes-over-requires c κs = let away = c .before in
     let s = away .before .before .before in
-    data-refused farthest (s .args .self) (s .args .header) (s .args .text .now) (s .args .out .now) (away .distance .ensures) (judged .header-code .ensures)
-    (c .before .if1 .taken) (c .refused .ensures)
+    (count-bound (s .args .self) (s .pre .0), omega (arith, away .distance .ensures))
 
 moved-requires : tie.Need-moved-requires
 moved-requires c κs = search needs
+
+waited-requires : tie.Need-waited-requires
+waited-requires c κs = search needs
+
+returns : tie.Need-returns
+returns c = let moved = c .before in
+    let waits = moved .before in
+    let made = waits .before in
+    let judged = made .before in
+    let away = judged .before in
+    let s = away .before .before .before in
+    data-waits farthest (s .args .self) (s .args .header) (s .args .text .now) (s .args .out .now) (moved .moved .ensures .1) (judged .header-code .ensures) (waits .if1 .taken)
+    (away .distance .ensures, made .changes-over .ensures, moved .moved .ensures .0) (c .waited .ensures)
+
+refused-requires : tie.Need-refused-requires
+refused-requires c κs = search needs
+
+returns-2 : tie.Need-returns-2
+returns-2 c = let stops = c .before in
+    let goes = stops .before in
+    let judged = goes .before .before in
+    let away = judged .before in
+    let s = away .before .before .before in
+    data-refused farthest (s .args .self) (s .args .header) (s .args .text .now) (s .args .out .now) (away .distance .ensures) (judged .header-code .ensures)
+    (goes .if1 .left) (stops .if2 .taken) (c .refused .ensures)
+
+moved-requires-2 : tie.Need-moved-requires-2
+moved-requires-2 c κs = search needs
+
+lacks-a-requires : tie.Need-lacks-a-requires
+lacks-a-requires c κs = search needs
+
+either-requires : tie.Need-either-requires
+either-requires c κs = search needs
 
 cipher-of-requires : tie.Need-cipher-of-requires
 cipher-of-requires c κs = search needs
 
 runs-off-protocol-requires : tie.Need-runs-off-protocol-requires
-runs-off-protocol-requires c κs = let judged = c .before .before .before in
-    let away = judged .before in
-    away .before .before .before .pre .1
+runs-off-protocol-requires c κs = let moved = c .before .before .before in
+    let judged = moved .before .before .before .before in
+    judged .before .before .before .before .pre .1
 
 refused-requires-2 : tie.Need-refused-requires-2
 refused-requires-2 c κs = search needs
 
-returns-2 : tie.Need-returns-2
-returns-2 c = let off = c .before .before in
+returns-3 : tie.Need-returns-3
+returns-3 c = let off = c .before .before in
     let keyed = off .before in
-    let moved = keyed .before in
+    let fresh = keyed .before in
+    let moved = fresh .before .before in
     let passed = moved .before in
-    let judged = passed .before in
+    let made = passed .before .before in
+    let judged = made .before in
     let away = judged .before in
     let s = away .before .before .before in
-    data-off farthest (s .args .self) (s .args .header) (s .args .text .now) (s .args .out .now) (judged .header-code .ensures) (passed .if1 .left)
-    (away .distance .ensures, moved .moved .ensures, keyed .cipher-of .ensures) (off .runs-off-protocol .ensures) (c .before .if2 .taken)
-    (c .refused2 .ensures)
+    data-off farthest (s .args .self) (s .args .header) (s .args .text .now) (s .args .out .now) (moved .moved2 .ensures .1) (judged .header-code .ensures) (passed .if2 .left)
+    (away .distance .ensures, made .changes-over .ensures, moved .moved2 .ensures .0) (fresh .before .lacks-a .ensures, fresh .either .ensures, keyed .cipher-of .ensures)
+    (off .runs-off-protocol .ensures) (c .before .if3 .taken) (c .refused2 .ensures)
 
 run-requires : tie.Need-run-requires
 run-requires c κs = search needs
 
+settled-requires : tie.Need-settled-requires
+settled-requires c κs = search needs
+
 same-length : tie.Need-same-length
 same-length c = search needs
 
-returns-3 : tie.Need-returns-3
-returns-3 c = let ran = c .before .before in
+returns-4 : tie.Need-returns-4
+returns-4 c = let ran = c .before .before .before .before in
     let carried = ran .before .before in
     let off = carried .before in
     let keyed = off .before in
-    let moved = keyed .before in
+    let fresh = keyed .before in
+    let moved = fresh .before .before in
     let passed = moved .before in
-    let judged = passed .before in
+    let made = passed .before .before in
+    let judged = made .before in
     let away = judged .before in
     let s = away .before .before .before in
-    data-opened farthest (s .args .self) (s .args .header) (s .args .text .now) (s .args .out .now) (judged .header-code .ensures) (passed .if1 .left)
-    (away .distance .ensures, moved .moved .ensures, keyed .cipher-of .ensures) (off .runs-off-protocol .ensures) (carried .if2 .left)
-    (ran .run .ensures .1) (s .pre .2)
+    data-opened farthest (s .args .self) (s .args .header) (s .args .text .now) (s .args .out .now) (moved .moved2 .ensures .1) (judged .header-code .ensures) (passed .if2 .left)
+    (away .distance .ensures, made .changes-over .ensures, moved .moved2 .ensures .0) (fresh .before .lacks-a .ensures, fresh .either .ensures, keyed .cipher-of .ensures)
+    (off .runs-off-protocol .ensures) (carried .if3 .left) (ran .run .ensures) (s .pre .2) (c .settled .ensures)
 
 pub open-data-spec : {M : Type 1} → statement M
 open-data-spec =
@@ -73,13 +109,20 @@ open-data-spec =
     (tie.spec
     distance-requires
     header-code-requires
-    refused-requires
-    returns
+    changes-over-requires
     moved-requires
+    waited-requires
+    returns
+    refused-requires
+    returns-2
+    moved-requires-2
+    lacks-a-requires
+    either-requires
     cipher-of-requires
     runs-off-protocol-requires
     refused-requires-2
-    returns-2
+    returns-3
     run-requires
+    settled-requires
     same-length
-    returns-3)
+    returns-4)

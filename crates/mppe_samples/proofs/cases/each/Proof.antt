@@ -4,10 +4,10 @@ use Rattle.mppe_samples.proofs.cases.each.Statement.{statement}
 use Rattle.mppe_samples.proofs.cases.each.Tie as tie
 
 abbrev Inv-loop : tie.InvT-loop
-Inv-loop strength kind from to n₀ n = n₀ ≤ n
+Inv-loop link kind from to n₀ n = n₀ ≤ n
 
 abbrev μ-loop : tie.MeasureT-loop
-μ-loop strength kind from to n₀ n = to - n
+μ-loop link kind from to n₀ n = to - n
 
 slice-aggregate-numbered : tie.Need-slice-aggregate-numbered Inv-loop μ-loop
 slice-aggregate-numbered c = search needs
@@ -20,9 +20,6 @@ numbered-requires c κs = search needs
 
 loop-holds : tie.Need-loop-holds Inv-loop μ-loop
 loop-holds c = search needs
-
-fresh-requires : tie.Need-fresh-requires Inv-loop μ-loop
-fresh-requires c κs = search needs
 
 case-requires : tie.Need-case-requires Inv-loop μ-loop
 case-requires c κs = search needs
@@ -49,7 +46,6 @@ each-spec =
     slice-aggregate-numbered-2
     numbered-requires
     loop-holds
-    fresh-requires
     case-requires
     add-n
     loop-less

@@ -2,8 +2,8 @@ use mathlib.Core.Path.{_≡_}
 use Prim.Native.Nat.{_-_}
 use lib.ListN.{length}
 use borrow.Author.Needs.{needs}
-use Rattle.mppe_samples.proofs.cases.last_packet.Statement.{statement}
-use Rattle.mppe_samples.proofs.cases.last_packet.Tie as tie
+use Rattle.mppe_samples.proofs.last_packet.Statement.{statement}
+use Rattle.mppe_samples.proofs.last_packet.Tie as tie
 
 abbrev Inv-loop : tie.InvT-loop
 Inv-loop packets sender₀ wire₀ counter₀ sender wire counter = length wire ≡ 18
