@@ -1,4 +1,4 @@
-#: make demo       a station logs in, sends readings over a line that loses some, and the control room opens the rest
+#: make demo       a station logs in, sends readings over a line that loses some, and gets setpoints over a stateful modem
 #: make test       every proof and every test; the last line is the verdict, `N passed, 0 failed`
 #: make fuzz       the library against an independent program, with fresh cases, for SECONDS=60
 #: make bench      the library's speed beside plain C and OpenSSL, in one run

@@ -35,21 +35,22 @@ uint8_t bench_hmac_sha256(const octet *key, size_t k, const octet *text, size_t 
 uint8_t bench_des(const octet *key, size_t k, const octet *block, size_t n, octet *out, size_t room);
 uint8_t bench_rc4(const octet *key, size_t k, const octet *text, size_t n, octet *out, size_t room);
 uint8_t bench_key_changes(const octet *start, size_t a, const octet *session, size_t b, size_t n, octet *out, size_t room);
-uint8_t bench_seal(bool bits40, const octet *start, size_t a, const octet *session, size_t b, uint16_t count, const octet *plain,
-                   size_t n, octet *out, size_t room);
-uint8_t bench_open(bool bits40, const octet *start, size_t a, const octet *session, size_t b, uint16_t count, const octet *packet,
-                   size_t n, octet *out, size_t room);
+uint8_t bench_seal(bool bits40, bool stateful, const octet *start, size_t a, const octet *session, size_t b, uint16_t count,
+                   const octet *plain, size_t n, octet *out, size_t room);
+uint8_t bench_open(bool bits40, bool stateful, const octet *start, size_t a, const octet *session, size_t b, uint16_t count,
+                   const octet *packet, size_t n, octet *out, size_t room);
 
 enum { BURSTS = 400, LONGEST = 65535 };
 
-/* One thing measured: three ways to do it, on inputs of a size, and how many octets it gives; of packets, the link's strength and
-   the receiver's distance. */
+/* One thing measured: three ways to do it, on inputs of a size, and how many octets it gives; of packets, the link's strength and mode
+   and the receiver's distance. */
 struct measure {
     const char *name;
     void (*ours)(size_t), (*plain)(size_t), (*openssl)(size_t);
     size_t size, gives;
     int bits;
     unsigned distance;
+    bool stateful;
 };
 
 static octet text[LONGEST], out[LONGEST], key[32];
@@ -160,11 +161,13 @@ static void openssl_changed(int bits, const octet *start, const octet *session, 
 }
 static void openssl_changes(size_t n) { openssl_changed(128, key, key + 16, n); }
 
-/* The link that packets go over: a sender's at count 4,095, or a receiver's that is `distance` packets behind it.
-   The packet is a longest one, sealed for it; a shorter one has its first octets. OpenSSL's side tests nothing and keeps no record. */
+/* The link that packets go over: a sender's at count 4,095, or a receiver's that is `distance` packets behind it; a stateful one's next
+   packet has count 1, draws on from the box that it holds, and brings no key change. The packet is a longest one, sealed for it; a shorter
+   one has its first octets. OpenSSL's side tests nothing; of a record it keeps RC4's state alone. */
 static struct plain_link link_now;
 static unsigned distance;
 static octet packet[1502];
+static RC4_KEY held;
 
 static size_t key_octets(void) { return link_now.bits == 128 ? 16 : 8; }
 
@@ -176,35 +179,50 @@ static const octet *plain_packet(void)
     return text;
 }
 
-static void link_set(int bits, unsigned behind)
+static void link_set(int bits, unsigned behind, bool stateful)
 {
     static const octet head[3] = {0xd1, 0x26, 0x9e};
     struct plain_link sender;
     memset(&link_now, 0, sizeof link_now);
+    memset(&held, 0, sizeof held);
     link_now.bits = bits;
+    link_now.stateful = stateful;
+    for (int k = 0; k < 256; k++)
+        held.data[k] = link_now.state.box[k] = k;
     memcpy(link_now.start, key, key_octets());
     memcpy(link_now.session, key + 16, key_octets());
     memcpy(link_now.session, head, bits == 40 ? 3 : 0);
     distance = behind;
     sender = link_now;
-    sender.count = 4095;
-    plain_key_changes(bits, link_now.start, link_now.session, behind - 1, sender.session);
+    sender.count = stateful ? 0 : 4095;
+    if (!stateful)
+        plain_key_changes(bits, link_now.start, link_now.session, behind - 1, sender.session);
     plain_seal(sender, plain_packet(), 1498, packet, sizeof packet);
-    link_now.count = 4096 - behind;
+    link_now.count = (sender.count + 1 + 4096 - behind) % 4096;
 }
 
 static void ours_seal(size_t n)
 {
     size_t k = key_octets();
-    bench_seal(link_now.bits == 40, link_now.start, k, link_now.session, k, link_now.count, plain_packet(), n, out, n + 4);
+    bench_seal(link_now.bits == 40, link_now.stateful, link_now.start, k, link_now.session, k, link_now.count, plain_packet(), n, out,
+               n + 4);
 }
 static void plain_seal_of(size_t n) { plain_seal(link_now, plain_packet(), n, out, n + 4); }
+
+/* A link's RC4: the one that it holds, or one keyed after so many key changes. */
+static RC4_KEY openssl_cipher(size_t changes)
+{
+    RC4_KEY k = held;
+    if (link_now.stateful)
+        return k;
+    openssl_changed(link_now.bits, link_now.start, link_now.session, changes);
+    RC4_set_key(&k, key_octets(), out);
+    return k;
+}
 static void openssl_seal(size_t n)
 {
-    static const octet front[4] = {0x00, 0xfd, 0x90, 0x00};
-    RC4_KEY k;
-    openssl_changed(link_now.bits, link_now.start, link_now.session, 1);
-    RC4_set_key(&k, key_octets(), out);
+    const octet front[4] = {0x00, 0xfd, link_now.stateful ? 0x10 : 0x90, link_now.stateful};
+    RC4_KEY k = openssl_cipher(1);
     memcpy(out, front, 4);
     RC4(&k, n, plain_packet(), out + 4);
 }
@@ -212,41 +230,43 @@ static void openssl_seal(size_t n)
 static void ours_open(size_t n)
 {
     size_t k = key_octets();
-    bench_open(link_now.bits == 40, link_now.start, k, link_now.session, k, link_now.count, packet, n + 4, out, n);
+    bench_open(link_now.bits == 40, link_now.stateful, link_now.start, k, link_now.session, k, link_now.count, packet, n + 4, out, n);
 }
 static void plain_open_of(size_t n) { plain_open(link_now, packet, n + 4, out, n); }
 static void openssl_open(size_t n)
 {
-    RC4_KEY k;
-    openssl_changed(link_now.bits, link_now.start, link_now.session, distance);
-    RC4_set_key(&k, key_octets(), out);
+    RC4_KEY k = openssl_cipher(distance);
     RC4(&k, n, packet + 4, out);
 }
 
 static const struct measure measures[] = {
-    {"MD4, 112 octets", ours_md4, plain_md4_of, openssl_md4, 112, 16, 128, 1},
-    {"MD4, 65,535 octets", ours_md4, plain_md4_of, openssl_md4, 65535, 16, 128, 1},
-    {"SHA-1, 112 octets", ours_sha1, plain_sha1_of, openssl_sha1, 112, 20, 128, 1},
-    {"SHA-1, 65,535 octets", ours_sha1, plain_sha1_of, openssl_sha1, 65535, 20, 128, 1},
-    {"SHA-256, 112 octets", ours_sha256, plain_sha256_of, openssl_sha256, 112, 32, 128, 1},
-    {"SHA-256, 65,535 octets", ours_sha256, plain_sha256_of, openssl_sha256, 65535, 32, 128, 1},
-    {"HMAC-SHA256, 112 octets", ours_hmac, plain_hmac_of, openssl_hmac, 112, 32, 128, 1},
-    {"HMAC-SHA256, 65,535 octets", ours_hmac, plain_hmac_of, openssl_hmac, 65535, 32, 128, 1},
-    {"DES, key and block", ours_des, plain_des_of, openssl_des, 8, 8, 128, 1},
-    {"RC4, fresh key, 1,500 octets", ours_rc4, plain_rc4_of, openssl_rc4, 1500, 1500, 128, 1},
-    {"one key change, 128 bits", ours_changes, plain_changes_of, openssl_changes, 1, 16, 128, 1},
-    {"4,095 key changes, 128 bits", ours_changes, plain_changes_of, openssl_changes, 4095, 16, 128, 1},
-    {"seal, 64 octets", ours_seal, plain_seal_of, openssl_seal, 64, 68, 128, 1},
-    {"seal, 576 octets", ours_seal, plain_seal_of, openssl_seal, 576, 580, 128, 1},
-    {"seal, 1,498 octets", ours_seal, plain_seal_of, openssl_seal, 1498, 1502, 128, 1},
-    {"open, 64 octets", ours_open, plain_open_of, openssl_open, 64, 64, 128, 1},
-    {"open, 576 octets", ours_open, plain_open_of, openssl_open, 576, 576, 128, 1},
-    {"open, 1,498 octets", ours_open, plain_open_of, openssl_open, 1498, 1498, 128, 1},
-    {"seal, 64 octets, 40 bits", ours_seal, plain_seal_of, openssl_seal, 64, 68, 40, 1},
-    {"seal, 1,498 octets, 40 bits", ours_seal, plain_seal_of, openssl_seal, 1498, 1502, 40, 1},
-    {"open, 64 octets, 40 bits", ours_open, plain_open_of, openssl_open, 64, 64, 40, 1},
-    {"open, 1,498 octets, 40 bits", ours_open, plain_open_of, openssl_open, 1498, 1498, 40, 1},
-    {"open, 1,498 octets, 2,047 lost before", ours_open, plain_open_of, openssl_open, 1498, 1498, 128, 2048},
+    {"MD4, 112 octets", ours_md4, plain_md4_of, openssl_md4, 112, 16, 128, 1, false},
+    {"MD4, 65,535 octets", ours_md4, plain_md4_of, openssl_md4, 65535, 16, 128, 1, false},
+    {"SHA-1, 112 octets", ours_sha1, plain_sha1_of, openssl_sha1, 112, 20, 128, 1, false},
+    {"SHA-1, 65,535 octets", ours_sha1, plain_sha1_of, openssl_sha1, 65535, 20, 128, 1, false},
+    {"SHA-256, 112 octets", ours_sha256, plain_sha256_of, openssl_sha256, 112, 32, 128, 1, false},
+    {"SHA-256, 65,535 octets", ours_sha256, plain_sha256_of, openssl_sha256, 65535, 32, 128, 1, false},
+    {"HMAC-SHA256, 112 octets", ours_hmac, plain_hmac_of, openssl_hmac, 112, 32, 128, 1, false},
+    {"HMAC-SHA256, 65,535 octets", ours_hmac, plain_hmac_of, openssl_hmac, 65535, 32, 128, 1, false},
+    {"DES, key and block", ours_des, plain_des_of, openssl_des, 8, 8, 128, 1, false},
+    {"RC4, fresh key, 1,500 octets", ours_rc4, plain_rc4_of, openssl_rc4, 1500, 1500, 128, 1, false},
+    {"one key change, 128 bits", ours_changes, plain_changes_of, openssl_changes, 1, 16, 128, 1, false},
+    {"4,095 key changes, 128 bits", ours_changes, plain_changes_of, openssl_changes, 4095, 16, 128, 1, false},
+    {"seal, 64 octets", ours_seal, plain_seal_of, openssl_seal, 64, 68, 128, 1, false},
+    {"seal, 576 octets", ours_seal, plain_seal_of, openssl_seal, 576, 580, 128, 1, false},
+    {"seal, 1,498 octets", ours_seal, plain_seal_of, openssl_seal, 1498, 1502, 128, 1, false},
+    {"open, 64 octets", ours_open, plain_open_of, openssl_open, 64, 64, 128, 1, false},
+    {"open, 576 octets", ours_open, plain_open_of, openssl_open, 576, 576, 128, 1, false},
+    {"open, 1,498 octets", ours_open, plain_open_of, openssl_open, 1498, 1498, 128, 1, false},
+    {"seal, 64 octets, 40 bits", ours_seal, plain_seal_of, openssl_seal, 64, 68, 40, 1, false},
+    {"seal, 1,498 octets, 40 bits", ours_seal, plain_seal_of, openssl_seal, 1498, 1502, 40, 1, false},
+    {"open, 64 octets, 40 bits", ours_open, plain_open_of, openssl_open, 64, 64, 40, 1, false},
+    {"open, 1,498 octets, 40 bits", ours_open, plain_open_of, openssl_open, 1498, 1498, 40, 1, false},
+    {"open, 1,498 octets, 2,047 lost before", ours_open, plain_open_of, openssl_open, 1498, 1498, 128, 2048, false},
+    {"stateful seal, 64 octets", ours_seal, plain_seal_of, openssl_seal, 64, 68, 128, 1, true},
+    {"stateful seal, 1,498 octets", ours_seal, plain_seal_of, openssl_seal, 1498, 1502, 128, 1, true},
+    {"stateful open, 64 octets", ours_open, plain_open_of, openssl_open, 64, 64, 128, 1, true},
+    {"stateful open, 1,498 octets", ours_open, plain_open_of, openssl_open, 1498, 1498, 128, 1, true},
 };
 
 static double now(void)
@@ -341,7 +361,7 @@ int main(int words, char **word)
         const struct measure *m = &measures[k];
         void (*ways[2])(size_t) = {m->ours, m->plain};
         long n[2];
-        link_set(m->bits, m->distance);
+        link_set(m->bits, m->distance, m->stateful);
         for (int w = 0; w < 2; w++) {
             n[w] = counted(fd, ways[w], m->size);
             CALLGRIND_DUMP_STATS;

@@ -345,9 +345,7 @@ void plain_des(const octet *key, const octet *block, octet *out)
 
 /* ---- RC4 ---- */
 
-struct rc4 { octet box[256]; octet i, j; };
-
-static void rc4_key(struct rc4 *g, const octet *key, size_t k)
+static void rc4_key(struct plain_rc4 *g, const octet *key, size_t k)
 {
     octet j = 0;
 
@@ -362,7 +360,7 @@ static void rc4_key(struct rc4 *g, const octet *key, size_t k)
     g->i = g->j = 0;
 }
 
-static void rc4_run(struct rc4 *g, const octet *text, size_t n, octet *out)
+static void rc4_run(struct plain_rc4 *g, const octet *text, size_t n, octet *out)
 {
     octet i = g->i, j = g->j;
 
@@ -380,7 +378,7 @@ static void rc4_run(struct rc4 *g, const octet *text, size_t n, octet *out)
 
 void plain_rc4(const octet *key, size_t k, const octet *text, size_t n, octet *out)
 {
-    struct rc4 g;
+    struct plain_rc4 g;
 
     rc4_key(&g, key, k);
     rc4_run(&g, text, n, out);
@@ -411,6 +409,24 @@ void plain_key_changes(int bits, const octet *start, const octet *session, size_
     memcpy(out, text + k + 40, k);
 }
 
+/* A permutation; in stateless mode 0 to 255 in order, with both indices 0 and no mark. */
+static int box_fits(const struct plain_link *l)
+{
+    octet seen[256] = {0}, all = 1;
+    int rest = l->state.i == 0 && l->state.j == 0 && !l->waiting;
+
+    if (!l->stateful) {
+        for (int k = 0; k < 256; k++)
+            rest &= l->state.box[k] == k;
+        return rest;
+    }
+    for (int k = 0; k < 256; k++)
+        seen[l->state.box[k]] = 1;
+    for (int k = 0; k < 256; k++)
+        all &= seen[k];
+    return all;
+}
+
 static int well_formed(const struct plain_link *l)
 {
     octet reduced[16];
@@ -420,7 +436,7 @@ static int well_formed(const struct plain_link *l)
     reduce(l->bits, reduced);
     for (int k = 8; l->bits != 128 && k < 16; k++)
         ok = ok && l->start[k] == 0 && l->session[k] == 0;
-    return ok && memcmp(reduced, l->session, 16) == 0;
+    return ok && memcmp(reduced, l->session, 16) == 0 && box_fits(l);
 }
 
 static int wrong_protocol(const octet *p)
@@ -428,9 +444,31 @@ static int wrong_protocol(const octet *p)
     return p[0] != 0 || p[1] < 0x21 || p[1] > 0xfa;
 }
 
+/* The key changes that so many counts after the last one bring. */
+static unsigned changes_over(const struct plain_link *l, unsigned away)
+{
+    return l->stateful ? (l->count + away + 1) / 256 - (l->count + 1) / 256 : away;
+}
+
+/* RC4 keyed with a link's session key. */
+static void key_afresh(const struct plain_link *l, struct plain_rc4 *g)
+{
+    rc4_key(g, l->session, l->bits == 128 ? 16 : 8);
+}
+
+/* A link after a packet: a stateful one draws on from here, and neither waits. */
+static void settle(struct plain_link *l, const struct plain_rc4 *g)
+{
+    if (l->stateful)
+        l->state = *g;
+    l->waiting = 0;
+}
+
 struct plain_outcome plain_seal(struct plain_link link, const octet *plain, size_t n, octet *out, size_t room)
 {
     struct plain_outcome o = {0, 0, link};
+    struct plain_rc4 g = link.state;
+    int fresh;
 
     if (!well_formed(&link))
         o.answer = 7;
@@ -442,54 +480,68 @@ struct plain_outcome plain_seal(struct plain_link link, const octet *plain, size
         o.answer = 2;
     if (o.answer)
         return o;
-    o.changes = 1;
+    o.changes = changes_over(&link, 1);
     o.link.count = (link.count + 1) % 4096;
-    plain_key_changes(link.bits, link.start, link.session, 1, o.link.session);
+    if (o.changes)
+        plain_key_changes(link.bits, link.start, link.session, o.changes, o.link.session);
+    fresh = o.changes || link.waiting;
+    if (fresh)
+        key_afresh(&o.link, &g);
     out[0] = 0x00;
     out[1] = 0xfd;
-    out[2] = 0x90 | o.link.count >> 8;
+    out[2] = (fresh ? 0x90 : 0x10) | o.link.count >> 8;
     out[3] = o.link.count;
-    plain_rc4(o.link.session, link.bits == 128 ? 16 : 8, plain, n, out + 4);
+    rc4_run(&g, plain, n, out + 4);
+    settle(&o.link, &g);
     return o;
 }
 
 struct plain_outcome plain_open(struct plain_link link, const octet *packet, size_t n, octet *out, size_t room)
 {
     struct plain_outcome o = {0, 0, link};
-    struct rc4 g;
+    struct plain_rc4 g = link.state;
     octet first[2];
     unsigned arrived, distance;
+    int fresh;
 
     if (!well_formed(&link))
         o.answer = 7;
     else if (n < 6 || n > 1502 || packet[0] != 0x00 || packet[1] != 0xfd)
         o.answer = 1;
-    else if ((packet[2] & 0x90) != 0x90)
+    else if ((packet[2] & 0x10) == 0 || (!link.stateful && (packet[2] & 0x80) == 0))
         o.answer = 5;
     if (o.answer)
         return o;
     arrived = (packet[2] & 15) << 8 | packet[3];
     distance = (arrived + 4096 - link.count) % 4096;
+    fresh = packet[2] >> 7;
     if (distance == 0)
         o.answer = 6;
     else if (distance > 2048)
         o.answer = 10;
+    else if (!fresh && (distance != 1 || link.waiting))
+        o.answer = 11;
     else if (room < n - 4)
         o.answer = 2;
-    if (o.answer)
+    if (o.answer && o.answer != 11)
         return o;
-    plain_key_changes(link.bits, link.start, link.session, distance, o.link.session);
-    rc4_key(&g, o.link.session, link.bits == 128 ? 16 : 8);
-    rc4_run(&g, packet + 4, 2, first);
-    if (wrong_protocol(first)) {
-        o.answer = 4;
-        o.link = link;
+    o.changes = changes_over(&link, distance);
+    if (o.changes)
+        plain_key_changes(link.bits, link.start, link.session, o.changes, o.link.session);
+    if (o.changes || fresh)
+        key_afresh(&o.link, &g);
+    o.link.count = arrived;
+    if (o.answer) {
+        o.link.state = g;
+        o.link.waiting = 1;
         return o;
     }
+    rc4_run(&g, packet + 4, 2, first);
+    if (wrong_protocol(first))
+        return (struct plain_outcome){4, 0, link};
     out[0] = first[0];
     out[1] = first[1];
     rc4_run(&g, packet + 6, n - 6, out + 2);
-    o.changes = distance;
-    o.link.count = arrived;
+    settle(&o.link, &g);
     return o;
 }

@@ -6,7 +6,14 @@
 
 typedef uint8_t octet;
 
-struct plain_link { int bits; octet start[16], session[16]; unsigned count; };
+struct plain_rc4 { octet box[256]; octet i, j; };
+struct plain_link {
+    int bits, stateful;
+    octet start[16], session[16];
+    unsigned count;
+    struct plain_rc4 state;
+    int waiting;
+};
 struct plain_outcome { int answer; unsigned changes; struct plain_link link; };
 
 void plain_md4(const octet *text, size_t n, octet *out);

@@ -1,7 +1,8 @@
 /*
  * A pump station logs in at the control room, both work out the link's keys, and readings go over a line that loses one of
- * them and brings another late. It shows what a program in C does with the library, what the library does with packets that
- * it must not hand up, and what it cannot see. It compiles as C and as C++.
+ * them and brings another late. Setpoints come back over a stateful modem that loses one, waits, asks and goes on. It shows
+ * what a program in C does with the library, what the library does with packets that it must not hand up, and what it cannot
+ * see. It compiles as C and as C++.
  */
 #include "udukemb.h"
 
@@ -9,7 +10,8 @@
 #include <stdlib.h>
 #include <string.h>
 
-enum { BITS = 128, READINGS = 6, LOST = 2, HELD_BACK = 3, LONGEST_READING = 64 };
+enum { BITS = 128, READINGS = 6, LOST = 2, HELD_BACK = 3, SETPOINTS = 6, LOST_SETPOINT = 2, LONGEST_TEXT = 64 };
+enum { LONGEST_PACKET = UDUKEMB_PACKET_FRONT + 2 + LONGEST_TEXT };
 
 /* The user, password and challenges of RFC 2759, section 9.2, the user with a domain in front. The password is UTF-16, low octet first. */
 static const uint8_t name[] = { 'N', 'O', 'R', 'T', 'H', '\\', 'U', 's', 'e', 'r' };
@@ -34,7 +36,8 @@ static const char *meaning(uint8_t answer)
                                          "the link record is damaged",
                                          "no strength is both offered and allowed",
                                          "a number that is no longer given",
-                                         "it comes late: one that was sealed after it is opened" };
+                                         "it comes late: one that was sealed after it is opened",
+                                         "one before it is missing, so the link waits for one keyed afresh" };
 
     return answer < sizeof words / sizeof words[0] ? words[answer] : "unknown";
 }
@@ -106,39 +109,76 @@ static void make_start_key(bool server, bool send, const uint8_t response[UDUKEM
                                           UDUKEMB_START_KEY_128));
 }
 
-/* Step 2: both ends agree on a strength, and each works out the same start key. */
-static void make_links(const uint8_t response[UDUKEMB_NT_RESPONSE], uint8_t sender[UDUKEMB_LINK_RECORD],
-                       uint8_t receiver[UDUKEMB_LINK_RECORD])
+/* Both ends agree on a strength and a mode: what is asked for, and the reply; whether that is stateful. */
+static bool agree(const uint8_t request[UDUKEMB_OPTION])
+{
+    uint8_t reply[UDUKEMB_OPTION];
+    struct udukemb_reply picked = udukemb_option_reply(request, UDUKEMB_OPTION, true, true, true, true, reply, sizeof reply);
+
+    must("the option", picked.answer);
+    show("the station offers", request, UDUKEMB_OPTION);
+    show(picked.accept ? "the control room accepts" : "the control room asks for", reply, sizeof reply);
+    printf("  that is %u bits, %s\n", picked.bits, picked.stateful ? "stateful" : "stateless");
+    return picked.stateful;
+}
+
+/* The link of one direction, at both ends, from the start key that each works out. */
+static void make_links(const uint8_t response[UDUKEMB_NT_RESPONSE], bool server_sends, bool stateful,
+                       uint8_t sender[UDUKEMB_LINK_RECORD], uint8_t receiver[UDUKEMB_LINK_RECORD])
+{
+    uint8_t sent[UDUKEMB_START_KEY_128], received[UDUKEMB_START_KEY_128];
+
+    make_start_key(server_sends, true, response, sent);
+    make_start_key(!server_sends, false, response, received);
+    show(server_sends ? "the control room sends with" : "the station sends with", sent, sizeof sent);
+    show(server_sends ? "the station opens with" : "the control room opens with", received, sizeof received);
+    must("the sender's link", udukemb_new_link(BITS, stateful, sent, sizeof sent, sender, UDUKEMB_LINK_RECORD));
+    must("the receiver's link", udukemb_new_link(BITS, stateful, received, sizeof received, receiver, UDUKEMB_LINK_RECORD));
+}
+
+/* Step 2: both ends make the link that the station sends over. */
+static void make_line(const uint8_t response[UDUKEMB_NT_RESPONSE], uint8_t sender[UDUKEMB_LINK_RECORD],
+                      uint8_t receiver[UDUKEMB_LINK_RECORD])
 {
     static const uint8_t request[UDUKEMB_OPTION] = { 18, 6, 0x01, 0x00, 0x00, 0xE0 };
-    uint8_t reply[UDUKEMB_OPTION], sent[UDUKEMB_START_KEY_128], received[UDUKEMB_START_KEY_128];
-    struct udukemb_reply picked = udukemb_option_reply(request, sizeof request, true, true, true, reply, sizeof reply);
 
     printf("2. Both ends make the keys of the link\n");
-    must("the option", picked.answer);
-    show("the station offers", request, sizeof request);
-    show(picked.accept ? "the control room accepts" : "the control room asks for", reply, sizeof reply);
-    printf("  that is %u bits\n", picked.bits);
-    make_start_key(false, true, response, sent);
-    make_start_key(true, false, response, received);
-    show("the station sends with", sent, sizeof sent);
-    show("the control room opens with", received, sizeof received);
-    must("the station's link", udukemb_new_link(BITS, sent, sizeof sent, sender, UDUKEMB_LINK_RECORD));
-    must("the control room's link", udukemb_new_link(BITS, received, sizeof received, receiver, UDUKEMB_LINK_RECORD));
+    make_links(response, false, agree(request), sender, receiver);
     printf("\n");
 }
 
-/* Opens a packet at the control room and says what came of it. */
-static void open_packet(uint8_t receiver[UDUKEMB_LINK_RECORD], const char *what, const uint8_t *packet, size_t n)
+/* Seals a text behind a protocol number, and gives the packet's length. */
+static size_t seal_text(uint8_t sender[UDUKEMB_LINK_RECORD], const char *text, uint8_t packet[LONGEST_PACKET])
+{
+    uint8_t plain[2 + LONGEST_TEXT] = { 0x00, 0x21 };
+    size_t n = strlen(text);
+
+    memcpy(plain + 2, text, n);
+    must("a packet", udukemb_seal(sender, UDUKEMB_LINK_RECORD, plain, 2 + n, packet, LONGEST_PACKET));
+    return UDUKEMB_PACKET_FRONT + 2 + n;
+}
+
+/* Opens a packet and says what came of it, but for the line's end. */
+static struct udukemb_opened say_opened(uint8_t receiver[UDUKEMB_LINK_RECORD], const char *what, const uint8_t *packet, size_t n)
 {
     uint8_t plain[UDUKEMB_LONGEST_PLAIN];
     struct udukemb_opened opened = udukemb_open(receiver, UDUKEMB_LINK_RECORD, packet, n, plain, sizeof plain);
 
     if (opened.answer == UDUKEMB_DONE)
-        printf("  %s: \"%.*s\" (%u missing before it)\n", what, (int)(n - UDUKEMB_PACKET_FRONT - 2), (const char *)plain + 2,
-               opened.changes - 1u);
+        printf("  %s: \"%.*s\"", what, (int)(n - UDUKEMB_PACKET_FRONT - 2), (const char *)plain + 2);
     else
-        printf("  %s: refused with %u, %s\n", what, opened.answer, meaning(opened.answer));
+        printf("  %s: refused with %u, %s", what, opened.answer, meaning(opened.answer));
+    return opened;
+}
+
+/* Opens a packet of the stateless link, where the key changes tell how many are missing before it. */
+static void open_packet(uint8_t receiver[UDUKEMB_LINK_RECORD], const char *what, const uint8_t *packet, size_t n)
+{
+    struct udukemb_opened opened = say_opened(receiver, what, packet, n);
+
+    if (opened.answer == UDUKEMB_DONE)
+        printf(" (%u missing before it)", opened.changes - 1u);
+    printf("\n");
 }
 
 /* Packet 4 first comes with a bit of its protocol number turned. */
@@ -167,20 +207,27 @@ static void alter_payload(uint8_t receiver[UDUKEMB_LINK_RECORD], uint8_t *packet
            "    an unaltered packet opens to what was sealed. A check inside the payload, or TLS around the link, would tell.\n");
 }
 
+/* Says whether both ends hold the same record. */
+static void show_records(const uint8_t sender[UDUKEMB_LINK_RECORD], const uint8_t receiver[UDUKEMB_LINK_RECORD])
+{
+    printf("  station and control room now hold %s link record\n\n",
+           memcmp(sender, receiver, UDUKEMB_LINK_RECORD) == 0 ? "the same" : "another");
+}
+
 /* Step 3: readings are sealed, one is lost, one is held back, and the rest are opened; other packets come in between. */
 static void run_line(uint8_t sender[UDUKEMB_LINK_RECORD], uint8_t receiver[UDUKEMB_LINK_RECORD])
 {
-    uint8_t held[LONGEST_READING + UDUKEMB_PACKET_FRONT];
+    uint8_t held[LONGEST_PACKET];
     size_t held_n = 0;
 
     printf("3. The station sends readings; the line loses number %d, and holds number %d back\n", LOST, HELD_BACK);
     for (int i = 1; i <= READINGS; i++) {
-        uint8_t plain[LONGEST_READING] = { 0x00, 0x21 }, packet[sizeof held];
-        size_t n = 2 + (size_t)snprintf((char *)plain + 2, sizeof plain - 2, "reading %d, level 3.%02d m", i, 10 + i);
-        char label[32];
+        uint8_t packet[LONGEST_PACKET];
+        char text[LONGEST_TEXT], label[32];
+        size_t n;
 
-        must("a packet", udukemb_seal(sender, UDUKEMB_LINK_RECORD, plain, n, packet, sizeof packet));
-        n += UDUKEMB_PACKET_FRONT;
+        snprintf(text, sizeof text, "reading %d, level 3.%02d m", i, 10 + i);
+        n = seal_text(sender, text, packet);
         if (i == 1)
             show("packet 1 on the line", packet, n);
         if (i == HELD_BACK) {
@@ -201,16 +248,51 @@ static void run_line(uint8_t sender[UDUKEMB_LINK_RECORD], uint8_t receiver[UDUKE
         if (i == 5)
             repeat_and_damage(receiver, packet, n);
     }
-    printf("  station and control room now hold %s link record\n\n",
-           memcmp(sender, receiver, UDUKEMB_LINK_RECORD) == 0 ? "the same" : "another");
+    show_records(sender, receiver);
 }
 
-/* Step 4: what ties the login to the TLS connection it runs in. */
+/* Asks for a packet keyed afresh: the station writes a Reset-Request, and the control room takes it. */
+static void ask(uint8_t sender[UDUKEMB_LINK_RECORD])
+{
+    uint8_t request[UDUKEMB_RESET_REQUEST];
+
+    must("a Reset-Request", udukemb_write_reset(1, request, sizeof request));
+    show("the station asks", request, sizeof request);
+    must("the Reset-Request", udukemb_reset(sender, UDUKEMB_LINK_RECORD, request, sizeof request));
+}
+
+/* Step 4: setpoints come back over a stateful modem. One is lost; those behind it answer 11 until the station has asked for one keyed
+   afresh, which takes the time of two packets here. */
+static void run_modem(const uint8_t response[UDUKEMB_NT_RESPONSE])
+{
+    static const uint8_t request[UDUKEMB_OPTION] = { 18, 6, 0x00, 0x00, 0x00, 0x40 };
+    uint8_t sender[UDUKEMB_LINK_RECORD], receiver[UDUKEMB_LINK_RECORD], packet[LONGEST_PACKET];
+
+    printf("4. The control room sends setpoints over a stateful modem, which loses number %d\n", LOST_SETPOINT);
+    make_links(response, true, agree(request), sender, receiver);
+    for (int i = 1; i <= SETPOINTS; i++) {
+        char text[LONGEST_TEXT], label[32];
+        size_t n;
+
+        snprintf(text, sizeof text, "setpoint %d, valve at %d %%", i, 40 + i);
+        n = seal_text(sender, text, packet);
+        if (i == LOST_SETPOINT)
+            continue;
+        snprintf(label, sizeof label, "packet %d, %s bit A", i, packet[2] & 0x80 ? "with" : "without");
+        say_opened(receiver, label, packet, n);
+        printf("\n");
+        if (i == LOST_SETPOINT + 2)
+            ask(sender);
+    }
+    show_records(sender, receiver);
+}
+
+/* Step 5: what ties the login to the TLS connection it runs in. */
 static void bind_login(const uint8_t response[UDUKEMB_NT_RESPONSE])
 {
     uint8_t sent[UDUKEMB_START_KEY_128], received[UDUKEMB_START_KEY_128], base[UDUKEMB_BASE_KEY], key[UDUKEMB_BINDING_KEY];
 
-    printf("4. The binding key of SSTP, from the same login\n");
+    printf("5. The binding key of SSTP, from the same login\n");
     for (int server = 0; server <= 1; server++) {
         make_start_key(server, true, response, sent);
         make_start_key(server, false, response, received);
@@ -225,8 +307,9 @@ int main(void)
     uint8_t response[UDUKEMB_NT_RESPONSE], sender[UDUKEMB_LINK_RECORD], receiver[UDUKEMB_LINK_RECORD];
 
     login(response);
-    make_links(response, sender, receiver);
+    make_line(response, sender, receiver);
     run_line(sender, receiver);
+    run_modem(response);
     bind_login(response);
     return 0;
 }

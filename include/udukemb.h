@@ -1,6 +1,6 @@
 /*
  * Udukemb for C: MS-CHAPv2 responses and checks, MPPE start keys, the MPPE option, a link's packets, and the SSTP
- * binding key. Link with libudukemb.a, for x86-64 Linux; it needs nothing but memcpy and memset.
+ * binding key. Link with libudukemb.a, for x86-64 Linux; it needs nothing but memcpy, memmove and memset.
  *
  * Every call
  *   - takes any octets of any length. A lent part is a pointer and its length in octets; a part of length 0 may have a
@@ -8,35 +8,38 @@
  *   - keeps nothing, allocates nothing and has no state of its own, so any thread may make it. What is lent to it must
  *     not be used elsewhere meanwhile.
  *   - answers a number of those below: the first that applies, in the order in which they are named with it, or 0.
- *   - changes no lent octet where it answers another number than 0. On 0 the result stands in front of the buffer lent
- *     for it, and the octets behind it stay as they were.
+ *   - changes no lent octet where it answers another number than 0, but for the record of an open that answers 11. On 0
+ *     the result stands in front of the buffer lent for it, and the octets behind it stay as they were.
  *   - takes a bool that is true or false, and nothing else in its place.
  *
  * Nothing in place: what is lent for writing must not overlap anything else that is lent to the same call. No proof
  * speaks of such a call. Seal a packet over its own plain packet, and today's archive answers 0 and leaves a packet
  * that opens to other octets, or not at all.
  *
- * Time: `udukemb_open` makes as many key changes as the packet's count is ahead of the last one, 1 to 2,048, before it
- * can see whether the protocol number inside is right. So a packet at the farthest distance costs a millisecond or two
- * even if it is then refused with 4, and whoever can put octets on the line can make every packet cost that much. How
- * long a call takes is not proved, nor that its time keeps a secret.
+ * Time: in stateless mode `udukemb_open` makes as many key changes as the packet's count is ahead of the last one, 1 to
+ * 2,048, before it can see whether the protocol number inside is right. So a packet at the farthest distance costs a
+ * millisecond or two even if it is then refused with 4, and whoever can put octets on the line can make every packet
+ * cost that much. In stateful mode there are at most 8. How long a call takes is not proved, nor that its time keeps a
+ * secret.
  *
  * Secrets: what a call works with remains on the stack below its caller's frame, the password's hash, start keys and
  * session keys among it. Nothing wipes it; where others may read that memory later, overwrite it.
  *
  * Stack: the most octets that a call takes below its caller's frame, with the arguments passed there and without what
- * memcpy and memset take:
+ * memcpy, memmove and memset take:
  *       udukemb_authenticator_string    1200
  *       udukemb_base_key                 200
  *       udukemb_binding_key             1600
  *       udukemb_check_authenticator     1200
  *       udukemb_check_response          2800
- *       udukemb_new_link                 900
+ *       udukemb_new_link                2000
  *       udukemb_nt_response             2800
- *       udukemb_open                    2600
+ *       udukemb_open                    4600
  *       udukemb_option_reply             200
- *       udukemb_seal                    2600
+ *       udukemb_reset                   1300
+ *       udukemb_seal                    3500
  *       udukemb_start_key                900
+ *       udukemb_write_reset              200
  */
 
 #ifndef UDUKEMB_H
@@ -47,7 +50,7 @@
 #include <stdint.h>
 
 /* The version of this interface: a new major number may break a program, a new minor one adds to it. */
-#define UDUKEMB_VERSION_MAJOR 2
+#define UDUKEMB_VERSION_MAJOR 3
 #define UDUKEMB_VERSION_MINOR 0
 
 /* A call whose answer is not looked at is warned of, where the compiler can. */
@@ -64,16 +67,17 @@ extern "C" {
 /* The numbers a call may answer. */
 enum {
     UDUKEMB_DONE = 0,     /* no refusal applies */
-    UDUKEMB_SHAPE = 1,    /* a packet or option has a wrong length or fixed field */
+    UDUKEMB_SHAPE = 1,    /* a packet, option or request has a wrong length or fixed field */
     UDUKEMB_ROOM = 2,     /* the buffer lent for the result is shorter than it */
     UDUKEMB_SIZE = 3,     /* another length lies outside its limits */
     UDUKEMB_PROTOCOL = 4, /* the plain protocol number is outside 0x0021 to 0x00FA */
-    UDUKEMB_FLAGS = 5,    /* bit A or bit D of an MPPE header is 0 */
+    UDUKEMB_FLAGS = 5,    /* bit D of an MPPE header is 0, or in stateless mode bit A */
     UDUKEMB_REPEAT = 6,   /* the count equals the last one */
     UDUKEMB_RECORD = 7,   /* the octets are no well formed link record */
     UDUKEMB_STRENGTH = 8, /* no strength is both offered and allowed; or the bits are none of 40, 56 and 128 */
     UDUKEMB_DOMAIN = 9,   /* no longer given, and never another refusal's number: a user name held a backslash */
-    UDUKEMB_LATE = 10     /* the count is too far ahead of the last one, as that of a packet that comes late is */
+    UDUKEMB_LATE = 10,    /* the count is too far ahead of the last one, as that of a packet that comes late is */
+    UDUKEMB_WAITING = 11  /* a stateful link cannot open the packet, and waits for one with bit A */
 };
 
 /* The farthest that a packet's count may be ahead of the last one, modulo 4,096: the most key changes of an open. */
@@ -93,7 +97,8 @@ enum {
     UDUKEMB_BINDING_KEY = 32,
     UDUKEMB_LONGEST_MATERIAL = 65535,  /* key material of a binding key */
     UDUKEMB_OPTION = 6,
-    UDUKEMB_LINK_RECORD = 35,
+    UDUKEMB_LINK_RECORD = 295,
+    UDUKEMB_RESET_REQUEST = 4,
     UDUKEMB_SHORTEST_PLAIN = 2,        /* a plain packet: two protocol octets and the payload */
     UDUKEMB_LONGEST_PLAIN = 1498,
     UDUKEMB_PACKET_FRONT = 4,          /* a sealed packet is this much longer than its plain packet */
@@ -107,17 +112,19 @@ struct udukemb_check {
     bool yes;
 };
 
-/* An option reply's answer. Where it is not 0, `accept` is false and `bits` 0. */
+/* An option reply's answer. Where it is not 0, `accept` and `stateful` are false and `bits` 0. */
 struct udukemb_reply {
     uint8_t answer;
-    bool accept;  /* true: an accept; false: a counter-offer */
-    uint8_t bits; /* the strength picked: 40, 56 or 128 */
+    bool accept;   /* true: an accept; false: a counter-offer */
+    uint8_t bits;  /* the strength picked: 40, 56 or 128 */
+    bool stateful; /* the mode picked: stateful, or else stateless */
 };
 
-/* An opened packet's answer. Where it is not 0, `changes` is 0. */
+/* An opened packet's answer. Where it is neither 0 nor 11, `changes` is 0. */
 struct udukemb_opened {
     uint8_t answer;
-    uint16_t changes; /* the key changes made, at most 2,048: one more than the packets lost just before this one */
+    uint16_t changes; /* the key changes made, at most 2,048: stateless, one more than the packets lost just before this
+                         one; stateful, as many of these and this one as have a count that ends in 0xFF */
 };
 
 /*
@@ -220,36 +227,41 @@ UDUKEMB_MUST_USE uint8_t udukemb_binding_key(
 /* The option and the link. */
 
 /*
- * The reply to a requested MPPE option: the strongest strength that is offered and allowed, in stateless mode. The
- * reply's option is written into `out`, six octets; it is an accept where the request is that option and no other bit,
- * else a counter-offer. `bits40`, `bits56` and `bits128` say which strengths are allowed.
+ * The reply to a requested MPPE option: the strongest strength that is offered and allowed, in the mode asked for where
+ * `stateful` allows stateful mode, else in stateless mode. The reply's option is written into `out`, six octets; it is
+ * an accept where the request is that option and no other bit, else a counter-offer. `bits40`, `bits56` and `bits128`
+ * say which strengths are allowed.
+ * Allow stateful mode only for modems that have no other: a lost packet leads to a Reset-Request, and that to packets
+ * under keystream that was used before. RFC 3078 wants stateless mode wherever packets are lost.
  * Answers: 1 shape, the option is not six octets of type 18 and length 6; 8 strength, none is both offered and allowed;
  * 2 room, `out` has fewer than six octets.
  */
 UDUKEMB_MUST_USE struct udukemb_reply udukemb_option_reply(
     const uint8_t *option, size_t option_len,
-    bool bits40, bool bits56, bool bits128,
+    bool bits40, bool bits56, bool bits128, bool stateful,
     uint8_t *out, size_t out_len);
 
 /*
- * The link record that both ends begin with, 35 octets into `link_record`: the strength in bits (1 octet), start key
- * (16 places), session key (16 places) and last count (2 octets, highest first). Keys of 8 octets have zeros in their
- * last eight places. The record holds the keys of the link, so keep it as secret as them.
+ * The link record that both ends begin with, 295 octets into `link_record`: the strength in bits (1 octet), start key
+ * (16 places), session key (16 places) and last count (2 octets, highest first); behind these the mode (0 stateless, 1
+ * stateful), the waiting mark (0 or 1), RC4's two indices and its 256 cells. Keys of 8 octets have zeros in their last
+ * eight places; in stateless mode the cells are 0 to 255 in order, and mark and indices 0. The record holds the keys of
+ * the link, so keep it as secret as them.
  * A record serves one direction: the sender of that direction seals with it, the receiver opens with a record of the
  * same start key.
  * Lengths: start 16 at 128 bits, 8 at 40 and 56.
  * Answers: 8 strength, `bits` is none of 40, 56 and 128; 3 size, `start` has another length; 2 room, `link_record` has
- * fewer than 35 octets.
+ * fewer than 295 octets.
  */
 UDUKEMB_MUST_USE uint8_t udukemb_new_link(
-    uint8_t bits,
+    uint8_t bits, bool stateful,
     const uint8_t *start, size_t start_len,
     uint8_t *link_record, size_t link_record_len);
 
 /*
  * Seals a plain packet into `out`, 4 octets more than it has, and writes the next record over `link_record`.
- * Lengths: record 35, exactly; plain 2 to 1,498.
- * Answers: 7 record, `link_record` is not 35 octets that hold a well formed record; 3 size, the plain packet's length
+ * Lengths: record 295, exactly; plain 2 to 1,498.
+ * Answers: 7 record, `link_record` is not 295 octets that hold a well formed record; 3 size, the plain packet's length
  * is outside its limits; 4 protocol, its number is outside 0x0021 to 0x00FA; 2 room, `out` has fewer than
  * plain_len + 4 octets.
  */
@@ -265,15 +277,39 @@ UDUKEMB_MUST_USE uint8_t udukemb_seal(
  * lost just before it.
  * A packet that comes late, up to 2,047 behind the last one opened, is refused and changes nothing; it is lost. One
  * that is still farther behind is taken for one that is ahead.
- * Lengths: record 35, exactly; packet 6 to 1,502.
- * Answers: 7 record, `link_record` is not 35 octets that hold a well formed record; 1 shape, the packet's length is
- * outside its limits, or it does not begin with 00 FD; 5 flags, bit A or D of its header is 0; 6 repeat, its count is
- * the last one; 10 late, its count is 2,049 to 4,095 ahead of the last one, modulo 4,096; 2 room, `out` has fewer than
- * packet_len - 4 octets; 4 protocol, the number inside is outside 0x0021 to 0x00FA.
+ * In stateful mode a packet without bit A opens only if the one sealed before it was opened. Every other answers 11:
+ * nothing is written into `out`, but the next record is written, and waits. Write a Reset-Request and send it; the
+ * sender's next packet then has bit A, and opens. A packet altered on the line may answer 11 too, as it may answer 0,
+ * and then moves the record to the count that it carries.
+ * Lengths: record 295, exactly; packet 6 to 1,502.
+ * Answers: 7 record, `link_record` is not 295 octets that hold a well formed record; 1 shape, the packet's length is
+ * outside its limits, or it does not begin with 00 FD; 5 flags, bit D of its header is 0, or in stateless mode bit A; 6
+ * repeat, its count is the last one; 10 late, its count is 2,049 to 4,095 ahead of the last one, modulo 4,096; 11
+ * waiting, as above; 2 room, `out` has fewer than packet_len - 4 octets; 4 protocol, the number inside is outside
+ * 0x0021 to 0x00FA.
  */
 UDUKEMB_MUST_USE struct udukemb_opened udukemb_open(
     uint8_t *link_record, size_t link_record_len,
     const uint8_t *packet, size_t packet_len,
+    uint8_t *out, size_t out_len);
+
+/*
+ * Takes a Reset-Request at the sender: a stateful one keys RC4 afresh for its next packet and sets bit A on it; a
+ * stateless one's record stays as it is.
+ * Lengths: record 295, exactly; request 4.
+ * Answers: 7 record, `link_record` is not 295 octets that hold a well formed record; 1 shape, the request is not four
+ * octets of code 14 and length 4.
+ */
+UDUKEMB_MUST_USE uint8_t udukemb_reset(
+    uint8_t *link_record, size_t link_record_len,
+    const uint8_t *request, size_t request_len);
+
+/*
+ * A Reset-Request with an identifier, four octets into `out`.
+ * Answers: 2 room, `out` has fewer than four octets.
+ */
+UDUKEMB_MUST_USE uint8_t udukemb_write_reset(
+    uint8_t identifier,
     uint8_t *out, size_t out_len);
 
 #ifdef __cplusplus

@@ -29,15 +29,17 @@ static void show_write(bool stateless, int set, size_t room)
     numbered("written", (size_t)set, answer, out, room);
 }
 
-/* A request replied to under a policy: the request, and behind it the reply's option. */
+/* A request replied to under a policy, a set of strengths and 8 for stateful mode: the reply's mode, the request, and behind it the
+   reply's option. */
 static void show_reply(part option, int policy)
 {
     octet shown[14] = {0};
-    reply r = oracle_option_reply(option, offer_of(false, policy), into(shown + 8, OPTION));
+    reply r = oracle_option_reply(option, offer_of(false, policy & 7), policy >> 3, into(shown + 8, OPTION));
 
     if (option.n > 0)
         memcpy(shown, option.at, option.n);
-    numbered(r.number != DONE ? "refused" : r.accept ? "accept" : "counter-offer", (size_t)policy, r.number, shown, sizeof shown);
+    printf("%s", r.number != DONE ? "refused" : r.accept ? "accept " : "counter-offer ");
+    numbered(r.number != DONE ? "" : r.stateful ? "stateful" : "stateless", (size_t)policy, r.number, shown, sizeof shown);
 }
 
 /* A request of a wrong shape. */
@@ -46,6 +48,7 @@ static void refused(part option)
     show_read(option);
     show_reply(option, 7);
     show_reply(option, 0);
+    show_reply(option, 15);
 }
 
 /* Request i: each subset of M, S and L without H, then with it; the same with C, with D, and with the top bit of each other octet. */
@@ -68,6 +71,50 @@ static part request(int i, octet option[OPTION])
     return of(option, OPTION);
 }
 
+/* A Reset-Request read. */
+static void show_reset(part request)
+{
+    octet identifier;
+    int answer = oracle_read_reset(request, &identifier);
+
+    numbered("reset", identifier, answer, request.at, request.n);
+}
+
+/* A Reset-Request written into a buffer. */
+static void show_reset_written(octet identifier, size_t room)
+{
+    octet out[6];
+    int answer;
+
+    memset(out, 0xAA, sizeof out);
+    answer = oracle_write_reset(identifier, into(out, room));
+    numbered("reset written", identifier, answer, out, room);
+}
+
+/* Reset-Requests: with three identifiers, with each bit turned over, and of 0 to 6 octets; written into 0 to 6 octets. */
+static void resets(void)
+{
+    static const octet identifiers[] = {0, 1, 255}, request[] = {14, 7, 0, 4, 0, 0};
+
+    for (int k = 0; k < 3; k++) {
+        octet named[RESET_REQUEST] = {14, identifiers[k], 0, 4};
+
+        show_reset(of(named, sizeof named));
+    }
+    for (int bit = 0; bit < 8 * RESET_REQUEST; bit++) {
+        octet damaged[RESET_REQUEST];
+
+        memcpy(damaged, request, sizeof damaged);
+        damaged[bit / 8] ^= 1 << bit % 8;
+        show_reset(of(damaged, sizeof damaged));
+    }
+    for (size_t n = 0; n <= sizeof request; n++)
+        show_reset(of(request, n));
+    for (int k = 0; k < 3; k++)
+        for (size_t room = 0; room <= 6; room++)
+            show_reset_written(identifiers[k], room);
+}
+
 int main(void)
 {
     octet option[OPTION];
@@ -75,7 +122,7 @@ int main(void)
     printf("K9 ");
     show_read(LITERAL("\x12\x06\x01\x00\x00\x40"));
     printf("K10 ");
-    show_reply(LITERAL("\x12\x06\x01\x00\x00\xE0"), 7);
+    show_reply(LITERAL("\x12\x06\x01\x00\x00\xE0"), 15);
     printf("K11 ");
     show_reply(LITERAL("\x12\x06\x00\x00\x00\x20"), 7);
     printf("K12 ");
@@ -89,7 +136,7 @@ int main(void)
     show_write(true, 7, 5);
     show_write(true, 7, 6);
     show_write(false, 1, 8);
-    for (int policy = 0; policy < 8; policy++)
+    for (int policy = 0; policy < 16; policy++)
         for (int i = 0; i < 64; i++)
             show_reply(request(i, option), policy);
     refused(LITERAL(""));
@@ -99,5 +146,6 @@ int main(void)
     refused(LITERAL("\x11\x06\x01\x00\x00\x40"));
     refused(LITERAL("\x12\x05\x01\x00\x00\x40"));
     refused(LITERAL("\x12\x07\x01\x00\x00\x40"));
+    resets();
     return 0;
 }

@@ -253,6 +253,42 @@ static void permutations(void)
     line("each number missing", 0, tells, sizeof tells);
 }
 
+/* Whether a state is the one that a key schedule starts from: 0 to 255 in order, both indices 0. */
+static int is_unkeyed(const octet state[RC4_STATE])
+{
+    for (int n = 0; n < 256; n++)
+        if (state[n] != n)
+            return 0;
+    return state[256] == 0 && state[257] == 0;
+}
+
+/* That state with two of its octets set. */
+static void unkeyed_but(const char *label, int at, octet value, int other, octet second)
+{
+    octet state[RC4_STATE] = {0};
+
+    for (int n = 0; n < 256; n++)
+        state[n] = (octet)n;
+    state[at] = value;
+    state[other] = second;
+    line(label, is_unkeyed(state), state, sizeof state);
+}
+
+/* Whether states are unkeyed: that one, with an index that is not 0, with two cells exchanged, with a repeated cell, of a key, of zeros. */
+static void unkeyed(void)
+{
+    octet state[RC4_STATE], zeros[RC4_STATE] = {0};
+
+    unkeyed_but("unkeyed state", 0, 0, 1, 1);
+    unkeyed_but("with another i", 256, 1, 257, 0);
+    unkeyed_but("with another j", 256, 0, 257, 128);
+    unkeyed_but("with two cells exchanged", 254, 255, 255, 254);
+    unkeyed_but("with a repeated cell", 0, 1, 1, 1);
+    keyed(of(counted, 16), state);
+    line("state of a key", is_unkeyed(state), state, sizeof state);
+    line("state of zeros", is_unkeyed(zeros), zeros, sizeof zeros);
+}
+
 /* A text under the key of 128 bits: the whole buffer, and draws after it. */
 static void buffered(const char *label, size_t n, size_t room)
 {
@@ -321,6 +357,7 @@ int main(void)
     box_of(257);
     draws();
     permutations();
+    unkeyed();
     buffered("buffer with room left", 9, 12);
     buffered("buffer as long as the text", 12, 12);
     buffered("buffer one octet too short", 13, 12);

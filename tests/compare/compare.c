@@ -10,12 +10,13 @@
 
 /* The calls' numbers in crates/cases. */
 enum {
-    MD4, SHA1, SHA256, HMAC_SHA256, DES, RC4_KEYED, RC4_RUN, RC4_DRAW, RC4_APPLY,
+    MD4, SHA1, SHA256, HMAC_SHA256, DES, RC4_KEYED, RC4_RUN, RC4_DRAW, RC4_APPLY, RC4_TESTS,
     PASSWORD_HASH = 16, HASH_HASH, HASH_CHALLENGE, CHALLENGE_RESPONSE,
     READ_CHALLENGE = 32, READ_RESPONSE, NAME, WRITE_CHALLENGE, WRITE_RESPONSE, READ_OPTION, WRITE_OPTION, ONLY,
+    READ_RESET, WRITE_RESET,
     MASTER_KEY = 48, START_KEY, NEW_KEY, INITIAL_SESSION_KEY, REDUCE, KEY_CHANGE, KEY_CHANGES, MAKE_BASE_KEY,
     PLACED_KEY_CHANGES, KEY_LENGTH, PLACED_CIPHER,
-    NEW_LINK = 64, SEAL, OPEN
+    NEW_LINK = 64, SEAL, OPEN, RESET, READ_RECORD
 };
 
 enum { CASE_INPUTS = 3, CASE_HEAD = 19, ANSWER_HEAD = 6, MANY_CHANGES = 5000 };
@@ -226,11 +227,9 @@ static void make_run(test *t)
     make_room(&t->lent[0], t->in[1].n);
 }
 
-/* A case's state, as an answer's fields. */
-static octet *state_of(const test *t, answer *a)
+/* A case's state. */
+static octet *put_state(const test *t, octet state[RC4_STATE])
 {
-    octet *state = field(a, RC4_STATE);
-
     memcpy(state, t->in[0].at, 256);
     state[256] = (octet)t->x;
     state[257] = (octet)t->y;
@@ -240,14 +239,14 @@ static octet *state_of(const test *t, answer *a)
 /* The state after the run, and the buffer. */
 static void expect_run(const test *t, answer *a)
 {
-    a->number = oracle_rc4_run(state_of(t, a), in(t, 1), lent(a, 0));
+    a->number = oracle_rc4_run(put_state(t, field(a, RC4_STATE)), in(t, 1), lent(a, 0));
 }
 
 /* The state after the draw; the octet comes in the lent buffer's place. */
 static void expect_draw(const test *t, answer *a)
 {
     a->lent[0].n = 1;
-    a->lent[0].at[0] = oracle_rc4_draw(state_of(t, a));
+    a->lent[0].at[0] = oracle_rc4_draw(put_state(t, field(a, RC4_STATE)));
 }
 
 /* A key, a text and room for the result. */
@@ -266,6 +265,44 @@ static void expect_apply(const test *t, answer *a)
     a->number = oracle_rc4_keyed(in(t, 0), state);
     if (a->number == DONE)
         a->number = oracle_rc4_run(state, in(t, 1), lent(a, 0));
+}
+
+/* The state without a key: "0 to 255 in order, indices 0". */
+static void put_unkeyed(octet state[RC4_STATE])
+{
+    memset(state, 0, RC4_STATE);
+    for (unsigned k = 0; k < CELLS; k++)
+        state[k] = (octet)k;
+}
+
+/* A state: as for a run, or that one, now and then with an index; often with a cell that is there twice. */
+static void make_tested(test *t)
+{
+    octet state[RC4_STATE];
+    size_t a = below(CELLS), b = below(CELLS);
+
+    make_state(t);
+    if (one_in(2)) {
+        put_unkeyed(state);
+        memcpy(t->in[0].at, state, CELLS);
+        t->x = one_in(8);
+        t->y = one_in(8);
+    }
+    if (one_in(2))
+        t->in[0].at[a] = t->in[0].at[b];
+}
+
+/* Whether it is the state without a key, whether its box is a permutation, and its next two octets. */
+static void expect_tested(const test *t, answer *a)
+{
+    octet unkeyed[RC4_STATE], state[RC4_STATE];
+
+    put_unkeyed(unkeyed);
+    put_state(t, state);
+    *field(a, 1) = memcmp(state, unkeyed, RC4_STATE) == 0;
+    *field(a, 1) = (octet)oracle_rc4_permutation(state);
+    *field(a, 1) = oracle_rc4_draw(state);
+    *field(a, 1) = oracle_rc4_draw(state);
 }
 
 /* A password. */
@@ -482,6 +519,18 @@ static void expect_write_option(const test *t, answer *a)
     a->number = oracle_write_option(offered, lent(a, 0));
 }
 
+/* A Reset-Request. */
+static void make_one_reset(test *t)
+{
+    make_reset(&t->in[0]);
+}
+
+/* Its identifier. */
+static void expect_read_reset(const test *t, answer *a)
+{
+    a->number = oracle_read_reset(in(t, 0), field(a, 1));
+}
+
 /* A hash-hash and an NT-Response. Of the keys' cases, x is the strength, y the role or the number of changes, z the direction. */
 static void make_master_key(test *t)
 {
@@ -620,85 +669,108 @@ static void expect_cipher(const test *t, answer *a)
     a->number = oracle_rc4_keyed(session, field(a, RC4_STATE));
 }
 
-/* Puts a record of 35 octets into a case: x is the strength, y the count, the first two inputs are the keys' places. */
-static void put_record(test *t, const octets *record)
+/* Whether octets can be read as a record at all: their number, a strength, a mode and a mark. */
+static bool readable(part record)
 {
-    t->x = record->at[0] == 40 ? 0 : record->at[0] == 56 ? 1 : 2;
-    t->y = (unsigned)get_number(record->at + AT_COUNT, 2);
-    t->in[0].n = t->in[1].n = KEY_PLACES;
-    memcpy(t->in[0].at, record->at + AT_START, KEY_PLACES);
-    memcpy(t->in[1].at, record->at + AT_SESSION, KEY_PLACES);
+    return record.n == RECORD_OCTETS && (record.at[0] == 40 || record.at[0] == 56 || record.at[0] == 128) && record.at[AT_MODE] <= 1
+           && record.at[AT_MARK] <= 1;
 }
 
-/* The record of a case, as an answer's fields behind the key changes. */
+/* An answer's fields before a link's call: no key change, and the record of a case, which is "40 bits, stateless, all else 0" where it
+   cannot be read. */
 static buffer record_of(const test *t, answer *a)
 {
-    buffer record = {field(a, 2 + RECORD_OCTETS) + 2, RECORD_OCTETS};
+    octet *changes = field(a, 2);
+    buffer record = {field(a, RECORD_OCTETS), RECORD_OCTETS};
 
-    memset(record.at - 2, 0, 2 + RECORD_OCTETS);
-    record.at[0] = (octet)strength_bits(t->x);
-    memcpy(record.at + AT_START, t->in[0].at, t->in[0].n <= KEY_PLACES ? t->in[0].n : 0);
-    memcpy(record.at + AT_SESSION, t->in[1].at, t->in[1].n);
-    put_number(record.at + AT_COUNT, t->y, 2);
+    memset(changes, 0, 2 + RECORD_OCTETS);
+    record.at[0] = 40;
+    if (readable(in(t, 0)))
+        memcpy(record.at, t->in[0].at, RECORD_OCTETS);
     return record;
 }
 
-/* A strength and a start key. */
+/* A strength, a mode and a start key. */
 static void make_new_link(test *t)
 {
     t->x = (unsigned)below(3);
+    t->y = (unsigned)below(2);
     make_key(&t->in[0], strength_bits(t->x));
 }
 
-/* The new link; a refused one has its strength and all else 0. */
+/* The new link; a refused one has its strength and mode, and all else 0. */
 static void expect_new_link(const test *t, answer *a)
 {
     buffer record = record_of(t, a);
 
-    memset(record.at + AT_START, 0, RECORD_OCTETS - AT_START);
-    a->number = oracle_new_link((octet)strength_bits(t->x), in(t, 0), record);
+    record.at[0] = (octet)strength_bits(t->x);
+    record.at[AT_MODE] = t->y == 0;
+    a->number = oracle_new_link(record.at[0], t->y == 0, in(t, 0), record);
+}
+
+/* A record, often damaged. */
+static void make_read_record(test *t)
+{
+    make_right_record(&t->in[0]);
+    if (!one_in(4))
+        damage_record(&t->in[0]);
+}
+
+/* A record read, and written again. */
+static void expect_read_record(const test *t, answer *a)
+{
+    record_of(t, a);
+    a->number = readable(in(t, 0)) ? DONE : RECORD;
 }
 
 /* A record, a plain packet and room. */
 static void make_seal(test *t)
 {
-    static octets record;
-
-    make_right_record(&record);
-    if (one_in(6))
-        damage_record(&record);
-    put_record(t, &record);
-    make_plain(&t->in[2]);
-    make_room(&t->lent[0], FRONT + t->in[2].n);
+    make_record(&t->in[0]);
+    make_plain(&t->in[1]);
+    make_room(&t->lent[0], FRONT + t->in[1].n);
 }
 
 /* Changes, the next record and the packet. */
 static void expect_seal(const test *t, answer *a)
 {
-    a->number = oracle_seal(record_of(t, a), in(t, 2), lent(a, 0));
-    a->fields.at[1] = a->number == DONE;
+    buffer record = record_of(t, a);
+
+    a->number = oracle_seal(record, in(t, 1), lent(a, 0));
+    if (a->number == DONE)
+        put_number(a->fields.at, changes_with(record.at, record.at[AT_COUNT + 1]), 2);
 }
 
 /* A record, a packet and room. */
 static void make_open(test *t)
 {
-    static octets record;
-
-    make_right_record(&record);
-    make_arriving(&record, &t->in[2]);
+    make_right_record(&t->in[0]);
+    make_arriving(&t->in[0], &t->in[1]);
     if (one_in(8))
-        damage_record(&record);
-    put_record(t, &record);
-    make_room(&t->lent[0], t->in[2].n > FRONT ? t->in[2].n - FRONT : 0);
+        damage_record(&t->in[0]);
+    make_room(&t->lent[0], t->in[1].n > FRONT ? t->in[1].n - FRONT : 0);
 }
 
 /* Changes, the next record and the plain packet. */
 static void expect_open(const test *t, answer *a)
 {
-    opened o = oracle_open(record_of(t, a), in(t, 2), lent(a, 0));
+    opened o = oracle_open(record_of(t, a), in(t, 1), lent(a, 0));
 
     a->number = o.number;
     put_number(a->fields.at, o.changes, 2);
+}
+
+/* A record and a Reset-Request. */
+static void make_taken(test *t)
+{
+    make_record(&t->in[0]);
+    make_reset(&t->in[1]);
+}
+
+/* The next record. */
+static void expect_taken(const test *t, answer *a)
+{
+    a->number = oracle_reset(record_of(t, a), in(t, 1));
 }
 
 static const call calls[] = {
@@ -711,6 +783,7 @@ static const call calls[] = {
     {"Rc4::run", RC4_RUN, make_run, expect_run},
     {"Rc4::draw", RC4_DRAW, make_state, expect_draw},
     {"rc4::apply", RC4_APPLY, make_apply, expect_apply},
+    {"Rc4::is_unkeyed, is_permutation and next_two", RC4_TESTS, make_tested, expect_tested},
     {"password_hash", PASSWORD_HASH, make_one_password, expect_password_hash},
     {"hash_hash", HASH_HASH, make_hash, expect_hash_hash},
     {"challenge_hash", HASH_CHALLENGE, make_challenge_hash, expect_challenge_hash},
@@ -723,6 +796,8 @@ static const call calls[] = {
     {"ccp::read", READ_OPTION, make_one_option, expect_read_option},
     {"ccp::write", WRITE_OPTION, make_write_option, expect_write_option},
     {"ccp::only", ONLY, make_strength, expect_only},
+    {"ccp::read_reset", READ_RESET, make_one_reset, expect_read_reset},
+    {"ccp::write_reset", WRITE_RESET, make_write_reset, expect_write_reset},
     {"master_key", MASTER_KEY, make_master_key, expect_master_key},
     {"start_key", START_KEY, make_start_key, expect_start_key},
     {"new_key", NEW_KEY, make_two_keys, expect_new_key},
@@ -737,6 +812,8 @@ static const call calls[] = {
     {"Link::new", NEW_LINK, make_new_link, expect_new_link},
     {"Link::seal", SEAL, make_seal, expect_seal},
     {"Link::open", OPEN, make_open, expect_open},
+    {"Link::reset", RESET, make_taken, expect_taken},
+    {"read_record", READ_RECORD, make_read_record, expect_read_record},
 };
 
 /* Compares every call. */

@@ -1,6 +1,6 @@
 /* The large comparison of the calls that a C host makes: cases from a seed, answered by the oracle and by the library through
-   include/udukemb.h; then whole runs of a link, with losses, repeats, late packets and damage between sender and receiver (demand 3).
-   Arguments: the seed, and how many cases for each call. */
+   include/udukemb.h; then whole runs of a link in each mode, with losses, repeats, late packets and damage between sender and receiver
+   (demand 3), and with Reset-Requests (M-103). Arguments: the seed, and how many cases for each call. */
 #include "guard.h"
 #include "links.h"
 #include "udukemb.h"
@@ -8,9 +8,11 @@
 #include <stdlib.h>
 #include <string.h>
 
-/* Packets sealed in a run; how many may be lost in a row, and how far behind the last arrival a packet is late. */
+/* Packets sealed in a run; how many may be lost in a row, and how far behind the last arrival a packet is late; one in how many arrivals
+   has a loss behind it, and how many a few are. */
 enum { SHORT_RUN = 50, LONG_RUN = 3 * COUNTS, PLACED_RUN = 24000, PERIOD = 8000 };
 enum { MOST_LOST = FARTHEST - 1, MOST_BEHIND = COUNTS - FARTHEST - 1 };
+enum { OFTEN = 4, SELDOM = 200, FEW = 5 };
 
 /* An input, and a lent buffer, as two arguments. */
 #define IN(k) l->in[k], t->in[k].n
@@ -240,43 +242,46 @@ static void give_binding_key(const test *t, const loan *l, answer *a)
     a->number = udukemb_binding_key(IN(0), OUT(0));
 }
 
-/* A request, a set of allowed strengths and room. */
+/* A request, a set of allowed strengths, whether stateful is allowed, and room. */
 static void make_option_reply(test *t)
 {
     make_option(&t->in[0]);
     t->x = (unsigned)below(8);
+    t->y = (unsigned)below(2);
     make_room(&t->lent[0], OPTION);
 }
 
 /* A reply as an answer. */
-static void replied(answer *a, int number, bool accept, octet bits)
+static void replied(answer *a, int number, bool accept, octet bits, bool stateful)
 {
     a->number = number;
     *field(a, 1) = accept;
     *field(a, 1) = bits;
+    *field(a, 1) = stateful;
 }
 
 /* The reply. */
 static void expect_option_reply(const test *t, answer *a)
 {
     offer allowed = {.bits40 = t->x & 1, .bits56 = t->x >> 1 & 1, .bits128 = t->x >> 2 & 1};
-    reply r = oracle_option_reply(in(t, 0), allowed, lent(a, 0));
+    reply r = oracle_option_reply(in(t, 0), allowed, t->y == 1, lent(a, 0));
 
-    replied(a, r.number, r.accept, r.bits);
+    replied(a, r.number, r.accept, r.bits, r.stateful);
 }
 
 /* The same by the library. */
 static void give_option_reply(const test *t, const loan *l, answer *a)
 {
-    struct udukemb_reply r = udukemb_option_reply(IN(0), t->x & 1, t->x >> 1 & 1, t->x >> 2 & 1, OUT(0));
+    struct udukemb_reply r = udukemb_option_reply(IN(0), t->x & 1, t->x >> 1 & 1, t->x >> 2 & 1, t->y == 1, OUT(0));
 
-    replied(a, r.answer, r.accept, r.bits);
+    replied(a, r.answer, r.accept, r.bits, r.stateful);
 }
 
-/* A strength, a start key and room. */
+/* A strength, a mode, a start key and room. */
 static void make_new_link(test *t)
 {
     t->x = make_bits();
+    t->y = (unsigned)below(2);
     make_key(&t->in[0], t->x);
     make_room(&t->lent[0], RECORD_OCTETS);
 }
@@ -284,21 +289,19 @@ static void make_new_link(test *t)
 /* The new link. */
 static void expect_new_link(const test *t, answer *a)
 {
-    a->number = oracle_new_link((octet)t->x, in(t, 0), lent(a, 0));
+    a->number = oracle_new_link((octet)t->x, t->y == 1, in(t, 0), lent(a, 0));
 }
 
 /* The same by the library. */
 static void give_new_link(const test *t, const loan *l, answer *a)
 {
-    a->number = udukemb_new_link((uint8_t)t->x, IN(0), OUT(0));
+    a->number = udukemb_new_link((uint8_t)t->x, t->y == 1, IN(0), OUT(0));
 }
 
 /* Seal: the record is the first lent buffer, the packet goes into the second. */
 static void make_seal(test *t)
 {
-    make_right_record(&t->lent[0]);
-    if (one_in(6))
-        damage_record(&t->lent[0]);
+    make_record(&t->lent[0]);
     make_plain(&t->in[0]);
     make_room(&t->lent[1], FRONT + t->in[0].n);
 }
@@ -349,7 +352,35 @@ static void give_open(const test *t, const loan *l, answer *a)
     gave_opened(a, o.answer, o.changes);
 }
 
-enum { CHECK_RESPONSE, RESPONSE, STRING, CHECK_AUTHENTICATOR, START_KEY, MAKE_BASE_KEY, MAKE_BINDING_KEY, OPTION_REPLY, NEW_LINK, SEAL, OPEN };
+/* A Reset-Request taken: the record is the first lent buffer. */
+static void make_taken(test *t)
+{
+    make_record(&t->lent[0]);
+    make_reset(&t->in[0]);
+}
+
+/* The next record. */
+static void expect_taken(const test *t, answer *a)
+{
+    a->number = oracle_reset(lent(a, 0), in(t, 0));
+}
+
+/* The same by the library. */
+static void give_taken(const test *t, const loan *l, answer *a)
+{
+    a->number = udukemb_reset(OUT(0), IN(0));
+}
+
+/* A Reset-Request written by the library. */
+static void give_write_reset(const test *t, const loan *l, answer *a)
+{
+    a->number = udukemb_write_reset((uint8_t)t->x, OUT(0));
+}
+
+enum {
+    CHECK_RESPONSE, RESPONSE, STRING, CHECK_AUTHENTICATOR, START_KEY, MAKE_BASE_KEY, MAKE_BINDING_KEY, OPTION_REPLY, NEW_LINK, SEAL, OPEN,
+    RESET, WRITE_RESET
+};
 
 static const call calls[] = {
     {"udukemb_check_response", CHECK_RESPONSE, make_check_response, expect_check_response},
@@ -363,10 +394,14 @@ static const call calls[] = {
     {"udukemb_new_link", NEW_LINK, make_new_link, expect_new_link},
     {"udukemb_seal", SEAL, make_seal, expect_seal},
     {"udukemb_open", OPEN, make_open, expect_open},
+    {"udukemb_reset", RESET, make_taken, expect_taken},
+    {"udukemb_write_reset", WRITE_RESET, make_write_reset, expect_write_reset},
 };
 
 static const call seal_in_run = {"udukemb_seal in a run", SEAL, make_seal, expect_seal};
 static const call open_in_run = {"udukemb_open in a run", OPEN, make_open, expect_open};
+static const call reset_in_run = {"udukemb_reset in a run", RESET, make_taken, expect_taken};
+static const call write_reset_in_run = {"udukemb_write_reset in a run", WRITE_RESET, make_write_reset, expect_write_reset};
 
 /* The library's answer to a case whose parts are lent between guards. */
 void give(const test *t, answer *a)
@@ -383,6 +418,8 @@ void give(const test *t, answer *a)
         [NEW_LINK] = give_new_link,
         [SEAL] = give_seal,
         [OPEN] = give_open,
+        [RESET] = give_taken,
+        [WRITE_RESET] = give_write_reset,
     };
     loan l = lend_guarded(t);
 
@@ -390,18 +427,20 @@ void give(const test *t, answer *a)
     take_back(t, a);
 }
 
-/* A run of a link: both ends' records, the packet sealed last with its plain packet, one that the line holds back, packets lost since the
-   last arrival, packets sealed since the one held back, and what was compared. */
+/* A run of a link: both ends' records, the packet sealed last with its plain packet, one that the line holds back, a Reset-Request under
+   way; packets lost and key changes made since the last arrival, packets sealed since the one held back, whether the packet sealed before
+   the last one was opened; and what was compared. */
 static struct {
-    octets sender, receiver, packet, plain, held;
-    unsigned lost, behind;
-    unsigned long seed, calls, arrivals, late;
+    octets sender, receiver, packet, plain, held, request;
+    unsigned lost, changes, behind;
+    bool in_step;
+    unsigned long seed, calls, opened, waited, late, resets;
 } run;
 
 static test t;
 static answer expected, given;
 
-/* Ends the program where a run does not go as demand 3 says. */
+/* Ends the program where a run does not go as demand 3 and M-103 say. */
 static void demand(bool held, const char *what)
 {
     if (held)
@@ -410,7 +449,7 @@ static void demand(bool held, const char *what)
     exit(1);
 }
 
-/* One call of a run, compared; its record is handed back. */
+/* One call of a run, compared; its record, or what else is lent to it first, is handed back. */
 static void step(const call *c, octets *record, const octets *input, size_t room)
 {
     copy(&t.lent[0], record);
@@ -420,15 +459,21 @@ static void step(const call *c, octets *record, const octets *input, size_t room
     copy(record, &given.lent[0]);
 }
 
-/* Seal calls until one is not refused; its packet is kept. */
+/* Seal calls until one is not refused; its packet is kept. It has bit A exactly if it brings a key change or the sender's mark was set. */
 static void seal_next(void)
 {
+    bool marked = run.sender.at[AT_MARK] == 1;
+    unsigned changes;
+
     do {
         make_plain(&run.plain);
         step(&seal_in_run, &run.sender, &run.plain, one_in(20) ? below(40) : FRONT + run.plain.n - one_in(20) + below(3));
     } while (given.number != DONE);
     copy(&run.packet, &given.lent[1]);
     run.packet.n = FRONT + run.plain.n;
+    changes = changes_with(run.sender.at, run.packet.at[3]);
+    demand(((run.packet.at[2] & BIT_A) != 0) == (changes > 0 || marked), "bit A is not where RC4 is keyed afresh");
+    run.changes += changes;
     run.behind++;
 }
 
@@ -442,13 +487,14 @@ static void refuse(const octets *packet, size_t room)
     demand(memcmp(record.at, run.receiver.at, RECORD_OCTETS) == 0, "a refused call changes the record");
 }
 
-/* A call of open that the table refuses: a damaged packet, a repeat, or too little room. Of those with hundreds of key changes to make
-   only some are tried. */
+/* A call of open that the table refuses, but not with 11: a damaged packet, a repeat, or too little room. Of those with hundreds of key
+   changes to make only some are tried. */
 static void refused_open(void)
 {
     static octets packet, record, out;
     size_t room = one_in(8) ? 0 : one_in(8) ? run.plain.n - 1 : LONGEST_PLAIN;
     unsigned distance;
+    int number;
 
     copy(&packet, &run.packet);
     copy(&record, &run.receiver);
@@ -458,26 +504,61 @@ static void refused_open(void)
     distance = oracle_distance(record.at, part_of(&packet));
     if (distance > 100 && distance <= FARTHEST && !one_in(50))
         return;
-    if (oracle_open(whole(&record), part_of(&packet), whole(&out)).number == DONE)
-        return;
-    refuse(&packet, room);
+    number = oracle_open(whole(&record), part_of(&packet), whole(&out)).number;
+    if (number != DONE && number != WAITING)
+        refuse(&packet, room);
 }
 
-/* The packet arrives: it opens to what was sealed, with one key change more than packets were lost, and both records are equal. */
-static void arrive(void)
+/* An arriving packet is opened to what was sealed, and both records are equal. */
+static void opened_as_sealed(void)
 {
-    step(&open_in_run, &run.receiver, &run.packet, run.plain.n + below(3));
     demand(given.number == DONE, "an arrival is refused");
     demand(memcmp(given.lent[1].at, run.plain.at, run.plain.n) == 0, "an arrival opens to other octets");
-    demand(256u * given.fields.at[0] + given.fields.at[1] == run.lost + 1, "other key changes than packets lost, and one");
     demand(memcmp(run.sender.at, run.receiver.at, RECORD_OCTETS) == 0, "the records differ");
-    run.lost = 0;
-    run.arrivals++;
+    run.opened++;
 }
 
-/* The line holds the packet sealed last back. */
-static void hold_back(void)
+/* A receiver that waits writes a Reset-Request. The line loses it in every other 256 packets, and one in four times besides. */
+static void ask(void)
 {
+    t.x = (unsigned)below(256);
+    fill(&run.request, RESET_REQUEST);
+    step(&write_reset_in_run, &run.request, &run.packet, 0);
+    if (run.packet.at[2] % 2 == 1 || one_in(4))
+        run.request.n = 0;
+}
+
+/* An arriving packet has no box to be opened with: nothing is written, the record has the sender's keys and count, and waits. */
+static void waits(void)
+{
+    demand(given.number == WAITING, "an arrival that cannot be opened is not answered with 11");
+    demand(memcmp(given.lent[1].at, t.lent[1].at, t.lent[1].n) == 0, "an arrival that is answered with 11 is written");
+    demand(memcmp(run.sender.at, run.receiver.at, AT_MARK) == 0, "the records have other keys or counts");
+    demand(run.receiver.at[AT_MARK] == 1, "a receiver does not wait");
+    run.waited++;
+    ask();
+}
+
+/* The packet arrives: it is opened exactly if it has bit A, as every stateless one has, or if the one sealed before it was opened. The key
+   changes are those that the packets since the last arrival bring. */
+static void arrive(void)
+{
+    run.in_step = run.in_step || (run.packet.at[2] & BIT_A) != 0;
+    step(&open_in_run, &run.receiver, &run.packet, run.plain.n + below(3));
+    demand(256u * given.fields.at[0] + given.fields.at[1] == run.changes, "other key changes than the packets sealed bring");
+    if (run.in_step)
+        opened_as_sealed();
+    else
+        waits();
+    run.lost = run.changes = 0;
+}
+
+/* The line loses the packet sealed last; the first of those lost in a row is held back. */
+static void lose(void)
+{
+    run.in_step = false;
+    if (run.lost++ > 0)
+        return;
     copy(&run.held, &run.packet);
     run.behind = 0;
 }
@@ -499,14 +580,45 @@ static void disturb(void)
         refused_open();
 }
 
-/* One packet sealed, and lost or opened, with refused calls before it and behind. The first of those lost in a row is held back. */
+/* A Reset-Request at a stateful sender sets its mark, and a refused one changes nothing. */
+static void take_reset(const octets *request)
+{
+    static octets record;
+
+    copy(&record, &run.sender);
+    step(&reset_in_run, &run.sender, request, 0);
+    if (given.number == DONE) {
+        record.at[AT_MARK] = 1;
+        run.resets++;
+    }
+    demand(memcmp(record.at, run.sender.at, RECORD_OCTETS) == 0, "a Reset-Request changes another field than the mark");
+}
+
+/* The receiver's Reset-Request comes to the sender sooner or later; now and then another one does, right or wrong. */
+static void come_resets(void)
+{
+    static octets request;
+
+    if (run.request.n > 0 && one_in(2)) {
+        take_reset(&run.request);
+        demand(given.number == DONE, "the receiver's Reset-Request is refused");
+        run.request.n = 0;
+    }
+    if (one_in(30)) {
+        make_reset(&request);
+        take_reset(&request);
+    }
+}
+
+/* One packet sealed, and lost or arriving, with refused calls before it and behind. */
 static void pass(bool arrives)
 {
+    if (run.sender.at[AT_MODE] == 1)
+        come_resets();
     seal_next();
     disturb();
     if (!arrives) {
-        if (run.lost++ == 0)
-            hold_back();
+        lose();
         return;
     }
     arrive();
@@ -515,24 +627,24 @@ static void pass(bool arrives)
 }
 
 /* Both ends of a new link. */
-static void begin(unsigned bits)
+static void begin(unsigned bits, bool stateful)
 {
-    make_begin(&run.sender, bits);
+    make_begin(&run.sender, bits, stateful);
     copy(&run.receiver, &run.sender);
-    run.lost = 0;
-    run.held.n = 0;
+    run.lost = run.changes = 0;
+    run.held.n = run.request.n = 0;
+    run.in_step = false;
 }
 
-/* A run: packets sealed, some lost, in a long run once as many in a row as may be. */
-static void run_link(unsigned long packets)
+/* A run: packets sealed, some lost, up to a number in a row, and in a long run once as many as may be. */
+static void run_link(unsigned long packets, unsigned long often, unsigned long most)
 {
     bool far = packets > MOST_LOST;
     unsigned long left = far && one_in(2) ? MOST_LOST : 0;
 
-    begin(strength_bits((unsigned)below(3)));
     for (; packets > 0; packets--) {
-        if (run.lost == 0 && left == 0 && one_in(4))
-            left = far && one_in(200) ? MOST_LOST : 1 + below(5);
+        if (run.lost == 0 && left == 0 && one_in(often))
+            left = far && one_in(200) ? MOST_LOST : 1 + below(most);
         far = far && left < MOST_LOST;
         pass(left == 0);
         left -= left > 0;
@@ -551,28 +663,37 @@ static bool arrives(unsigned long k)
 }
 
 /* A run with placed losses. */
-static void run_placed(unsigned bits)
+static void run_placed(void)
 {
-    begin(bits);
     for (unsigned long k = 0; k < PLACED_RUN; k++)
         pass(arrives(k));
 }
 
-/* Runs until as many packets are sealed as asked for: many short ones, a long one that wraps, and one with placed losses at each strength. */
-static unsigned long compare_runs(unsigned long seed, unsigned long packets)
+/* Runs in a mode until as many packets are sealed as asked for: many short ones, a long one that wraps, and at each strength one with long
+   stretches that lose nothing and one with placed losses. */
+static unsigned long compare_runs(unsigned long seed, unsigned long packets, bool stateful)
 {
-    seeded(seed, sizeof calls / sizeof calls[0]);
+    seeded(seed, sizeof calls / sizeof calls[0] + stateful);
+    memset(&run, 0, sizeof run);
     run.seed = seed;
-    for (unsigned long done = 0; done < packets; done += SHORT_RUN)
-        run_link(SHORT_RUN);
-    run_link(LONG_RUN);
-    for (unsigned k = 0; k < 3; k++)
-        run_placed(strength_bits(k));
-    printf("runs of a link: %lu calls, all equal; %lu arrivals, %lu packets that came late\n", run.calls, run.arrivals, run.late);
+    for (unsigned long done = 0; done < packets; done += SHORT_RUN) {
+        begin(strength_bits((unsigned)below(3)), stateful);
+        run_link(SHORT_RUN, OFTEN, FEW);
+    }
+    begin(strength_bits((unsigned)below(3)), stateful);
+    run_link(LONG_RUN, OFTEN, FEW);
+    for (unsigned k = 0; k < 3; k++) {
+        begin(strength_bits(k), stateful);
+        run_link(LONG_RUN, SELDOM, MOST_LOST);
+        begin(strength_bits(k), stateful);
+        run_placed();
+    }
+    printf("runs of a %s link: %lu calls, all equal; %lu packets opened, %lu answered 11, %lu that came late, %lu Reset-Requests taken\n",
+           stateful ? "stateful" : "stateless", run.calls, run.opened, run.waited, run.late, run.resets);
     return run.calls;
 }
 
-/* Compares every call, then runs of a link. */
+/* Compares every call, then runs of a link in each mode. */
 int main(int count, char **words)
 {
     unsigned long seed, cases, total;
@@ -582,7 +703,8 @@ int main(int count, char **words)
     read_arguments(count, words, &seed, &cases);
     guard();
     total = compare_calls(calls, sizeof calls / sizeof calls[0], seed, cases);
-    total += compare_runs(seed, cases);
+    total += compare_runs(seed, cases, false);
+    total += compare_runs(seed, cases, true);
     printf("%lu calls of the C host, all equal\n", total);
     return 0;
 }

@@ -38,34 +38,87 @@ static unsigned count_of(const octets *record)
     return 256u * record->at[AT_COUNT] + record->at[AT_COUNT + 1];
 }
 
-/* The record of a new link at a strength. */
-void make_begin(octets *record, unsigned bits)
+/* Stateless, one with each packet; stateful, one with a count that ends in 0xFF. */
+unsigned changes_with(const octet *record, unsigned count)
+{
+    return record[AT_MODE] == 0 || count % 256 == CHANGE;
+}
+
+/* The record of a new link at a strength, in a mode. */
+void make_begin(octets *record, unsigned bits, bool stateful)
 {
     static octets start;
 
     fill(&start, key_length(bits));
     fill(record, RECORD_OCTETS);
-    oracle_new_link((octet)bits, part_of(&start), whole(record));
+    oracle_new_link((octet)bits, stateful, part_of(&start), whole(record));
 }
 
-/* A record, well formed but hand-made: any session key that reduce leaves, any count, often near the wrap. */
+/* A last count: often beside the wrap, or beside a count that changes a stateful key. */
+static size_t make_count(void)
+{
+    if (one_in(3))
+        return (COUNTS - 3 + below(6)) % COUNTS;
+    return one_in(2) ? (256 * below(16) + CHANGE - 3 + below(6)) % COUNTS : below(COUNTS);
+}
+
+/* Exchanges two cells of a record's box. */
+static void exchange(octets *record, size_t a, size_t b)
+{
+    octet cell = record->at[AT_CELLS + a];
+
+    record->at[AT_CELLS + a] = record->at[AT_CELLS + b];
+    record->at[AT_CELLS + b] = cell;
+}
+
+/* A stateful record's box and mark: keyed with the session key and drawn on, or in any order with any indices; waiting or not. */
+static void make_box(octets *record)
+{
+    part key = {record->at + AT_SESSION, key_length(record->at[0])};
+    octet state[RC4_STATE];
+
+    oracle_rc4_keyed(key, state);
+    for (size_t draws = one_in(4) ? 0 : below(FRONT + LONGEST_PLAIN); draws > 0; draws--)
+        oracle_rc4_draw(state);
+    memcpy(record->at + AT_CELLS, state, CELLS);
+    memcpy(record->at + AT_INDICES, state + CELLS, 2);
+    if (one_in(2)) {
+        for (size_t k = CELLS; k > 1; k--)
+            exchange(record, k - 1, below(k));
+        record->at[AT_INDICES] = (octet)below(256);
+        record->at[AT_INDICES + 1] = (octet)below(256);
+    }
+    record->at[AT_MARK] = one_in(3);
+}
+
+/* A record, well formed but hand-made: any session key that reduce leaves, any count, and in stateful mode any box and mark. */
 void make_right_record(octets *record)
 {
     octet session[KEY_PLACES];
     unsigned bits;
 
-    make_begin(record, strength_bits((unsigned)below(3)));
+    make_begin(record, strength_bits((unsigned)below(3)), !one_in(3));
     bits = record->at[0];
     for (size_t k = 0; k < key_length(bits); k++)
         record->at[AT_SESSION + k] = (octet)below(256);
     part key = {record->at + AT_SESSION, key_length(bits)};
     oracle_reduce(bits, key, session);
     memcpy(record->at + AT_SESSION, session, KEY_PLACES);
-    set_count(record, one_in(3) ? (COUNTS - 3 + below(6)) % COUNTS : below(COUNTS));
+    set_count(record, make_count());
+    if (record->at[AT_MODE] == 1)
+        make_box(record);
 }
 
-/* One damage to a record: strength, places behind a key, the session key's front, count, length, or all of it. */
-void damage_record(octets *record)
+/* A length that a record does not have: that of its front, one beside its own, none, or any. */
+static size_t make_other_length(void)
+{
+    static const size_t others[] = {0, AT_MODE, RECORD_OCTETS - 1, RECORD_OCTETS + 1};
+
+    return one_in(3) ? below(RECORD_OCTETS) : others[below(4)];
+}
+
+/* One damage to a record's front, or all of it new: strength, places behind a key, the session key's front, count, or length. */
+static void damage_front(octets *record)
 {
     switch (below(6)) {
     case 0:
@@ -81,12 +134,55 @@ void damage_record(octets *record)
         set_count(record, one_in(2) ? COUNTS - 1 + below(3) : below(65536));
         break;
     case 4:
-        record->n = one_in(3) ? below(80) : one_in(3) ? 0 : one_in(2) ? RECORD_OCTETS - 1 : RECORD_OCTETS + 1;
+        record->n = make_other_length();
         break;
     default:
         fill(record, RECORD_OCTETS);
         record->at[0] = (octet)strength_bits((unsigned)below(3));
+        record->at[AT_MODE] = (octet)below(2);
+        record->at[AT_MARK] = (octet)below(2);
     }
+}
+
+/* One damage to what stands behind it: mode or mark the other one, or neither; an index; a cell that is there twice; two exchanged. */
+static void damage_rest(octets *record)
+{
+    octet *choice = record->at + (one_in(2) ? AT_MODE : AT_MARK);
+    size_t a = below(CELLS), b = below(CELLS);
+
+    switch (below(5)) {
+    case 0:
+        *choice ^= 1;
+        break;
+    case 1:
+        *choice = (octet)(one_in(2) ? 2 : below(256));
+        break;
+    case 2:
+        record->at[AT_INDICES + below(2)] = (octet)below(256);
+        break;
+    case 3:
+        record->at[AT_CELLS + a] = record->at[AT_CELLS + b];
+        break;
+    default:
+        exchange(record, a, b);
+    }
+}
+
+/* One damage to a record. */
+void damage_record(octets *record)
+{
+    if (one_in(2))
+        damage_front(record);
+    else
+        damage_rest(record);
+}
+
+/* A record, damaged now and then. */
+void make_record(octets *record)
+{
+    make_right_record(record);
+    if (one_in(6))
+        damage_record(record);
 }
 
 /* A plain packet: its protocol number mostly one that is carried, often at the limits. */
@@ -101,18 +197,23 @@ void make_plain(octets *plain)
     plain->at[1] = one_in(6) ? edges[below(4)] : one_in(20) ? (octet)below(256) : (octet)(0x21 + below(0xDA));
 }
 
-/* The packet that a record's sender seals a distance after it. */
+/* The packet that a record's sender seals a distance after it. A stateful sender is in step with the record where that is the next one, and
+   has its own mark; how it drew for packets before this one has no part in what an open answers. */
 static void make_sealed(const octets *record, unsigned distance, octets *packet)
 {
     static octets sender, plain;
     size_t n = key_length(record->at[0]);
-    part start = {sender.at + AT_START, n}, session = {record->at + AT_SESSION, n};
+    part start = {record->at + AT_START, n}, session = {record->at + AT_SESSION, n};
     octet key[KEY_PLACES];
+    unsigned changes = 0;
 
+    for (unsigned k = 1; k < distance; k++)
+        changes += changes_with(record->at, count_of(record) + k);
     copy(&sender, record);
-    oracle_key_changes(record->at[0], start, session, distance - 1, key);
+    oracle_key_changes(record->at[0], start, session, changes, key);
     memcpy(sender.at + AT_SESSION, key, KEY_PLACES);
     set_count(&sender, (count_of(record) + distance - 1) % COUNTS);
+    sender.at[AT_MARK] = record->at[AT_MODE] == 1 && one_in(3);
     make_plain(&plain);
     fill(packet, FRONT + plain.n);
     oracle_seal(whole(&sender), part_of(&plain), whole(packet));
@@ -121,7 +222,7 @@ static void make_sealed(const octets *record, unsigned distance, octets *packet)
 /* One damage to a packet: its first octets, its flags, its count, an octet of its data, its protocol number, or its length; or noise. */
 void damage_arriving(const octets *record, octets *packet)
 {
-    switch (below(8)) {
+    switch (below(9)) {
     case 0:
         packet->at[below(2)] ^= (octet)(1 << below(8));
         break;
@@ -144,6 +245,9 @@ void damage_arriving(const octets *record, octets *packet)
     case 6:
         fill(packet, below(1601));
         break;
+    case 7:
+        packet->at[2] ^= BIT_A;
+        break;
     default:
         fill(packet, one_in(2) ? FRONT + LONGEST_PLAIN + below(3) : below(40));
         memcpy(packet->at, "\x00\xFD\x90\x00", FRONT);
@@ -160,10 +264,25 @@ static unsigned make_distance(void)
     return 1 + (unsigned)(one_in(60) ? below(COUNTS - 1) : one_in(3) ? below(20) : 0);
 }
 
-/* A packet for a record, damaged in none, one or several ways. */
+/* A packet for a record, damaged in none, one or several ways; a stateful one often with the other bit A. */
 void make_arriving(const octets *record, octets *packet)
 {
     make_sealed(record, make_distance(), packet);
+    if (record->at[AT_MODE] == 1 && one_in(8))
+        packet->at[2] ^= BIT_A;
     for (bool more = one_in(2); more && packet->n > FRONT + 2; more = one_in(3))
         damage_arriving(record, packet);
+}
+
+/* An identifier and room. */
+void make_write_reset(test *t)
+{
+    t->x = (unsigned)below(256);
+    make_room(&t->lent[0], RESET_REQUEST);
+}
+
+/* The Reset-Request. */
+void expect_write_reset(const test *t, answer *a)
+{
+    a->number = oracle_write_reset((octet)t->x, lent(a, 0));
 }

@@ -4,8 +4,12 @@
 
 #include "making.h"
 
-/* The places of a record's fields. */
-enum { AT_START = 1, AT_SESSION = 17, AT_COUNT = 33 };
+/* The places of a record's fields, and how many cells its box has. */
+enum { AT_START = 1, AT_SESSION = 17, AT_COUNT = 33, AT_MODE = 35, AT_MARK = 36, AT_INDICES = 37, AT_CELLS = 39 };
+enum { CELLS = 256 };
+
+/* The bit of a packet's third octet that says that RC4 is keyed afresh, and the lowest octet of the counts that change a stateful key. */
+enum { BIT_A = 0x80, CHANGE = 0xFF };
 
 /* A number for a strength in bits, also one that is none. */
 unsigned make_bits(void);
@@ -14,14 +18,22 @@ unsigned make_bits(void);
 buffer whole(octets *o);
 part part_of(const octets *o);
 
-/* The record of a new link at a strength; a well formed one made by hand; one damage to a record. */
-void make_begin(octets *record, unsigned bits);
+/* The key changes that a packet of a count brings with it in a record's mode. */
+unsigned changes_with(const octet *record, unsigned count);
+
+/* The record of a new link; a well formed one made by hand; one damage to a record; a record that is damaged now and then. */
+void make_begin(octets *record, unsigned bits, bool stateful);
 void make_right_record(octets *record);
 void damage_record(octets *record);
+void make_record(octets *record);
 
 /* A plain packet; a packet for a record, often damaged; one damage to a packet. */
 void make_plain(octets *plain);
 void make_arriving(const octets *record, octets *packet);
 void damage_arriving(const octets *record, octets *packet);
+
+/* The case of a Reset-Request that is written, and what the oracle expects. */
+void make_write_reset(test *t);
+void expect_write_reset(const test *t, answer *a);
 
 #endif

@@ -153,7 +153,19 @@ void make_option(octets *o)
     if (o->n > 1)
         o->at[1] = one_in(12) ? (octet)below(10) : OPTION;
     for (size_t k = 2; k < o->n && !one_in(8); k++)
-        o->at[k] = k == 2 ? (octet)(below(8) != 0) : k == 5 ? (octet)(below(8) << 5) : 0;
+        o->at[k] = k == 2 ? (octet)!one_in(3) : k == 5 ? (octet)(below(8) << 5) : 0;
+}
+
+/* Mostly right; now and then with another octet, cut off, or with more behind it. */
+void make_reset(octets *o)
+{
+    size_t n = about(RESET_REQUEST);
+
+    fill(o, RESET_REQUEST + n);
+    oracle_write_reset((octet)below(256), (buffer){o->at, o->n});
+    if (one_in(4))
+        o->at[below(RESET_REQUEST)] = (octet)(one_in(3) ? below(256) : below(20));
+    o->n = n;
 }
 
 /* A strength in bits. */

@@ -6,7 +6,7 @@
 
 #include <stdio.h>
 
-enum { INPUTS = 6, LENT = 2, MOST = 65536, NUMBERS = LATE + 1 };
+enum { INPUTS = 6, LENT = 2, MOST = 65536, NUMBERS = WAITING + 1 };
 
 /* Octets of any length up to MOST. */
 typedef struct {
@@ -75,8 +75,9 @@ void make_key(octets *o, unsigned bits);
 /* A lent buffer around the room that a result of n octets needs: exact, one less, more, none. */
 void make_room(octets *o, size_t n);
 
-/* An option, often damaged. */
+/* An option, and a Reset-Request, often damaged. */
 void make_option(octets *o);
+void make_reset(octets *o);
 
 /* Strength k in bits: 0 is 40, 1 is 56, 2 is 128. */
 unsigned strength_bits(unsigned k);

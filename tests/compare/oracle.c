@@ -12,7 +12,7 @@
 enum { SHA1_OCTETS = 20, BIT_A = 0x80, BIT_D = 0x10, LOWEST_PROTOCOL = 0x21, HIGHEST_PROTOCOL = 0xFA };
 
 /* The places of a record's fields. */
-enum { AT_START = 1, AT_SESSION = 17, AT_COUNT = 33 };
+enum { AT_START = 1, AT_SESSION = 17, AT_COUNT = 33, AT_MODE = 35, AT_MARK = 36, AT_INDICES = 37, AT_CELLS = 39 };
 
 /* Ends the program where OpenSSL does not do what it is asked. */
 static void need(bool held)
@@ -581,10 +581,11 @@ static octet strongest(offer offered, offer allowed)
     return offered.bits40 && allowed.bits40 ? 40 : 0;
 }
 
-/* The strongest that is offered and allowed, with H; an accept exactly if the request is that and no other bit. */
-reply oracle_option_reply(part option, offer allowed, buffer out)
+/* The strongest that is offered and allowed, with H, or with the request's H where the policy allows stateful; an accept exactly if the
+   request is that and no other bit. */
+reply oracle_option_reply(part option, offer allowed, bool stateful, buffer out)
 {
-    reply refused = {DONE, false, 0}, made = refused;
+    reply refused = {DONE, false, 0, false}, made = refused;
     octet written[OPTION];
     buffer own = {written, OPTION};
     offer offered, chosen = {.stateless = true};
@@ -596,6 +597,9 @@ reply oracle_option_reply(part option, offer allowed, buffer out)
     refused.number = made.bits == 0 ? STRENGTH : out.n < OPTION ? ROOM : DONE;
     if (refused.number != DONE)
         return refused;
+    if (stateful)
+        chosen.stateless = offered.stateless;
+    made.stateful = !chosen.stateless;
     chosen.bits40 = made.bits == 40;
     chosen.bits56 = made.bits == 56;
     chosen.bits128 = made.bits == 128;
@@ -626,13 +630,48 @@ static bool ends_in_zeros(const octet *key, size_t n)
     return true;
 }
 
+/* Whether a record's mode is stateful. */
+static bool is_stateful(const octet *record)
+{
+    return record[AT_MODE] == 1;
+}
+
+/* The RC4 state in a record, which has both indices in front of the cells. */
+static void state_of(const octet *record, octet state[RC4_STATE])
+{
+    memcpy(state, record + AT_CELLS, 256);
+    memcpy(state + 256, record + AT_INDICES, 2);
+}
+
+/* A record's RC4 state. */
+static void put_state(octet *record, const octet state[RC4_STATE])
+{
+    memcpy(record + AT_CELLS, state, 256);
+    memcpy(record + AT_INDICES, state + 256, 2);
+}
+
+/* "In stateless mode 0 to 255 in order, indices 0, mark off" */
+static bool at_rest(const octet *record)
+{
+    for (unsigned k = 0; k < 256; k++)
+        if (record[AT_CELLS + k] != k)
+            return false;
+    return record[AT_INDICES] == 0 && record[AT_INDICES + 1] == 0 && record[AT_MARK] == 0;
+}
+
 /* Whether octets are a well formed record. */
 static bool well_formed(buffer record)
 {
+    octet state[RC4_STATE];
     part front;
     size_t n;
 
     if (record.n != RECORD_OCTETS || !is_strength(record.at[0]) || last_count(record.at) >= COUNTS)
+        return false;
+    if (record.at[AT_MODE] > 1 || record.at[AT_MARK] > 1)
+        return false;
+    state_of(record.at, state);
+    if (is_stateful(record.at) ? !oracle_rc4_permutation(state) : !at_rest(record.at))
         return false;
     n = key_length(record.at[0]);
     front = fixed_front(record.at[0]);
@@ -640,8 +679,8 @@ static bool well_formed(buffer record)
            && memcmp(record.at + AT_SESSION, front.at, front.n) == 0;
 }
 
-/* A record after key changes, with a new count. */
-static void renew(octet *record, unsigned changes, unsigned count)
+/* A record after key changes, with a new count. "Each change keys the box afresh with the new session key" */
+static void renew(octet *record, unsigned changes, unsigned count, octet state[RC4_STATE])
 {
     size_t n = key_length(record[0]);
     octet key[KEY_PLACES];
@@ -650,12 +689,22 @@ static void renew(octet *record, unsigned changes, unsigned count)
     memcpy(record + AT_SESSION, key, KEY_PLACES);
     record[AT_COUNT] = (octet)(count / 256);
     record[AT_COUNT + 1] = (octet)(count % 256);
+    if (changes != 0)
+        oracle_rc4_keyed(of(key, n), state);
 }
 
-/* RC4 freshly keyed with a record's session key, over data. */
-static void under_session(const octet *record, part data, octet *out)
+/* A box keyed afresh with a record's session key. */
+static void key_afresh(const octet *record, octet state[RC4_STATE])
 {
-    rc4_over(of(record + AT_SESSION, key_length(record[0])), data, out);
+    oracle_rc4_keyed(of(record + AT_SESSION, key_length(record[0])), state);
+}
+
+/* A record after a packet: a stateful one draws on from here, a stateless one keeps no box; neither waits. */
+static void settle(octet *record, const octet state[RC4_STATE])
+{
+    if (is_stateful(record))
+        put_state(record, state);
+    record[AT_MARK] = 0;
 }
 
 /* Whether a packet's first two octets are no protocol number that is carried. */
@@ -664,8 +713,8 @@ static bool off_protocol(const octet *plain)
     return plain[0] != 0 || plain[1] < LOWEST_PROTOCOL || plain[1] > HIGHEST_PROTOCOL;
 }
 
-/* A new link: count 4,095 (house). */
-int oracle_new_link(octet bits, part start, buffer record)
+/* A new link: count 4,095 (house), the box 0 to 255 in order, and a stateful one's mark set. */
+int oracle_new_link(octet bits, bool stateful, part start, buffer record)
 {
     octet session[KEY_PLACES];
 
@@ -681,13 +730,19 @@ int oracle_new_link(octet bits, part start, buffer record)
     memcpy(record.at + AT_SESSION, session, KEY_PLACES);
     record.at[AT_COUNT] = (COUNTS - 1) / 256;
     record.at[AT_COUNT + 1] = (COUNTS - 1) % 256;
+    record.at[AT_MODE] = record.at[AT_MARK] = stateful;
+    for (unsigned k = 0; k < 256; k++)
+        record.at[AT_CELLS + k] = (octet)k;
     return DONE;
 }
 
-/* Seal: "7, 3, 4, 2"; count + 1, one key change, RC4 over the plain packet. */
+/* Seal: "7, 3, 4, 2"; count + 1; stateless, one key change, and RC4 keyed afresh; stateful, a key change before a count that ends in 0xFF,
+   and RC4 keyed afresh on those and where the mark is set, with A set. */
 int oracle_seal(buffer record, part plain, buffer out)
 {
+    octet state[RC4_STATE];
     unsigned count;
+    bool change, fresh;
 
     if (!well_formed(record))
         return RECORD;
@@ -698,12 +753,18 @@ int oracle_seal(buffer record, part plain, buffer out)
     if (out.n < FRONT + plain.n)
         return ROOM;
     count = (last_count(record.at) + 1) % COUNTS;
-    renew(record.at, 1, count);
+    change = !is_stateful(record.at) || count % 256 == 0xFF;
+    fresh = change || record.at[AT_MARK] == 1;
+    state_of(record.at, state);
+    renew(record.at, change, count, state);
+    if (fresh)
+        key_afresh(record.at, state);
     out.at[0] = 0x00;
     out.at[1] = 0xFD;
-    out.at[2] = (octet)(BIT_A | BIT_D | count / 256);
+    out.at[2] = (octet)((fresh ? BIT_A : 0) | BIT_D | count / 256);
     out.at[3] = (octet)(count % 256);
-    under_session(record.at, plain, out.at + FRONT);
+    oracle_rc4_run(state, plain, (buffer){out.at + FRONT, plain.n});
+    settle(record.at, state);
     return DONE;
 }
 
@@ -719,43 +780,106 @@ unsigned oracle_distance(const octet *record, part packet)
     return (arrived_count(packet) + COUNTS - last_count(record)) % COUNTS;
 }
 
-/* The number for a packet to be opened, but for its protocol number: "7, 1, 5, 6, 10, 2". */
+/* Whether there is a box to open with. */
+static bool can_open(const octet *record, part packet)
+{
+    return (packet.at[2] & BIT_A) != 0 || (oracle_distance(record, packet) == 1 && record[AT_MARK] == 0);
+}
+
+/* The number for a packet to be opened, but for its protocol number: "7, 1, 5, 6, 10, 11, 2". */
 static int open_number(buffer record, part packet, size_t room)
 {
     if (!well_formed(record))
         return RECORD;
     if (packet.n < FRONT + SHORTEST_PLAIN || packet.n > FRONT + LONGEST_PLAIN || packet.at[0] != 0x00 || packet.at[1] != 0xFD)
         return SHAPE;
-    if ((packet.at[2] & BIT_A) == 0 || (packet.at[2] & BIT_D) == 0)
+    if ((packet.at[2] & BIT_D) == 0 || (!is_stateful(record.at) && (packet.at[2] & BIT_A) == 0))
         return FLAGS;
     if (arrived_count(packet) == last_count(record.at))
         return REPEAT;
     if (oracle_distance(record.at, packet) > FARTHEST)
         return LATE;
+    if (!can_open(record.at, packet))
+        return WAITING;
     return room < packet.n - FRONT ? ROOM : DONE;
 }
 
-/* Open: "7, 1, 5, 6, 10, 2, 4"; distance key changes, RC4, last count = arrived. */
+/* The key changes that a packet brings: stateless, its distance; stateful, the counts ending in 0xFF after the last one up to its own. */
+static unsigned changes_for(const octet *record, part packet)
+{
+    unsigned distance = oracle_distance(record, packet), changes = 0;
+
+    if (!is_stateful(record))
+        return distance;
+    for (unsigned k = 1; k <= distance; k++)
+        changes += (last_count(record) + k) % COUNTS % 256 == 0xFF;
+    return changes;
+}
+
+/* Open: "7, 1, 5, 6, 10, 11, 2, 4"; the key changes, RC4, last count = arrived. */
 opened oracle_open(buffer record, part packet, buffer out)
 {
     opened result = {open_number(record, packet, out.n), 0};
-    octet next[RECORD_OCTETS], plain[LONGEST_PLAIN];
+    octet next[RECORD_OCTETS], state[RC4_STATE], plain[LONGEST_PLAIN];
     unsigned changes;
 
-    if (result.number != DONE)
+    if (result.number != DONE && result.number != WAITING)
         return result;
-    changes = oracle_distance(record.at, packet);
+    changes = changes_for(record.at, packet);
     memcpy(next, record.at, RECORD_OCTETS);
-    renew(next, changes, arrived_count(packet));
-    under_session(next, of(packet.at + FRONT, packet.n - FRONT), plain);
-    if (off_protocol(plain)) {
-        result.number = PROTOCOL;
-        return result;
+    state_of(next, state);
+    renew(next, changes, arrived_count(packet), state);
+    if (result.number == WAITING) {
+        put_state(next, state);
+        next[AT_MARK] = 1;
+    } else {
+        if ((packet.at[2] & BIT_A) != 0)
+            key_afresh(next, state);
+        oracle_rc4_run(state, of(packet.at + FRONT, packet.n - FRONT), (buffer){plain, packet.n - FRONT});
+        if (off_protocol(plain)) {
+            result.number = PROTOCOL;
+            return result;
+        }
+        settle(next, state);
+        memcpy(out.at, plain, packet.n - FRONT);
     }
     memcpy(record.at, next, RECORD_OCTETS);
-    memcpy(out.at, plain, packet.n - FRONT);
     result.changes = changes;
     return result;
+}
+
+/* "CCP code 14, length 4, four octets, else 1" */
+int oracle_read_reset(part request, octet *identifier)
+{
+    *identifier = 0;
+    if (request.n != RESET_REQUEST || request.at[0] != 14 || request.at[2] != 0 || request.at[3] != 4)
+        return SHAPE;
+    *identifier = request.at[1];
+    return DONE;
+}
+
+int oracle_write_reset(octet identifier, buffer out)
+{
+    const octet request[RESET_REQUEST] = {14, identifier, 0, 4};
+
+    if (out.n < RESET_REQUEST)
+        return ROOM;
+    memcpy(out.at, request, RESET_REQUEST);
+    return DONE;
+}
+
+/* A Reset-Request at the sender: "7 comes before 1". */
+int oracle_reset(buffer record, part request)
+{
+    octet identifier;
+
+    if (!well_formed(record))
+        return RECORD;
+    if (oracle_read_reset(request, &identifier) != DONE)
+        return SHAPE;
+    if (is_stateful(record.at))
+        record.at[AT_MARK] = 1;
+    return DONE;
 }
 
 /* The client's send start key then its receive start key; the server puts receive first (004). */

@@ -21,7 +21,7 @@ typedef struct {
 } buffer;
 
 /* The numbers a call may answer; 9 is no longer given. */
-enum { DONE, SHAPE, ROOM, SIZE, PROTOCOL, FLAGS, REPEAT, RECORD, STRENGTH, LATE = 10 };
+enum { DONE, SHAPE, ROOM, SIZE, PROTOCOL, FLAGS, REPEAT, RECORD, STRENGTH, LATE = 10, WAITING };
 
 /* Counts of packets, and the farthest ahead of the last one that is opened. */
 enum { COUNTS = 4096, FARTHEST = 2048 };
@@ -43,7 +43,8 @@ enum {
     BASE_KEY = 32,
     BINDING_KEY = 32,
     OPTION = 6,
-    RECORD_OCTETS = 35,
+    RECORD_OCTETS = 295,
+    RESET_REQUEST = 4,
     SHORTEST_PLAIN = 2,
     LONGEST_PLAIN = 1498,
     FRONT = 4,
@@ -99,21 +100,27 @@ typedef struct {
     int number;
     bool accept;
     octet bits;
+    bool stateful;
 } reply;
 
 int oracle_read_option(part option, offer *out);
 int oracle_write_option(offer offered, buffer out);
-reply oracle_option_reply(part option, offer allowed, buffer out);
+reply oracle_option_reply(part option, offer allowed, bool stateful, buffer out);
 
-/* The link: a record of 35 octets, as include/udukemb.h lays it out. */
+/* The Reset-Request. */
+int oracle_read_reset(part request, octet *identifier);
+int oracle_write_reset(octet identifier, buffer out);
+
+/* The link: a record of 295 octets, as include/udukemb.h lays it out. */
 typedef struct {
     int number;
     unsigned changes;
 } opened;
 
-int oracle_new_link(octet bits, part start, buffer record);
+int oracle_new_link(octet bits, bool stateful, part start, buffer record);
 int oracle_seal(buffer record, part plain, buffer out);
 opened oracle_open(buffer record, part packet, buffer out);
+int oracle_reset(buffer record, part request);
 
 /* How far a packet's count, in its third and fourth octet, is ahead of a record's. */
 unsigned oracle_distance(const octet *record, part packet);
