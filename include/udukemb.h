@@ -1,6 +1,6 @@
 /*
  * Udukemb for C: MS-CHAPv2 responses and checks, MPPE start keys, the MPPE option, a link's packets, and the SSTP
- * binding key. Link with libudukemb.a, for x86-64 Linux; it needs nothing but memcpy, memmove and memset.
+ * binding key. Link with libudukemb.a, for x86-64 Linux; it needs nothing but memcpy and memset.
  *
  * Every call
  *   - takes any octets of any length. A lent part is a pointer and its length in octets; a part of length 0 may have a
@@ -26,7 +26,7 @@
  * session keys among it. Nothing wipes it; where others may read that memory later, overwrite it.
  *
  * Stack: the most octets that a call takes below its caller's frame, with the arguments passed there and without what
- * memcpy, memmove and memset take:
+ * memcpy and memset take:
  *       udukemb_authenticator_string    1200
  *       udukemb_base_key                 200
  *       udukemb_binding_key             1600

@@ -446,12 +446,13 @@ fn moved(link: Link, count: u16, changes: u16) -> Link
 fn cipher_of(link: Link, fresh: bool) -> Rc4
     ensures { λ r. ⌜ r ≡ cipherIn link fresh ⌝ }
 {
+    let mut cipher = link.state;
     if fresh {
         let strength = link.strength;
         let session = link.session;
-        return mppe_keys::placed_cipher(strength, session);
+        cipher = mppe_keys::placed_cipher(strength, session);
     }
-    link.state
+    cipher
 }
 
 // Enciphers a text into a lent buffer, with RC4 keyed afresh or as a record holds it, and gives the box that the record keeps. A stateless

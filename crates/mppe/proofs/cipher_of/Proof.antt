@@ -12,7 +12,7 @@ unfolding placedCipher
 returns c = cipher-fresh _ _ _ (c .before .before .if1 .taken) (c .placed-cipher .ensures)
 
 returns-2 : tie.Need-returns-2
-returns-2 c = cipher-held _ _ _ (c .before .if1 .left)
+returns-2 c = cipher-held _ _ _ (c .if1 .left)
 
 pub cipher-of-spec : {M : Type 1} → statement M
 cipher-of-spec = tie.close (tie.spec placed-cipher-requires returns returns-2)
