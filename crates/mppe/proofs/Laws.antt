@@ -6,7 +6,6 @@ use Prim.Native.Nat.{ℕ, zero, suc, _+_, _*_, _-_, _/_, _%_, _^_, _<_, _≤_}
 use native.Mathlib.Nat.{suc-ne-zero}
 use native.Mathlib.Numerals.{add-one}
 use native.Mathlib.Omega.{arith}
-use lib.Bits.{bitXor}
 use lib.Dec.{eqb, ltb}
 use lib.ListN.{length, take, drop, getD, replicate, drop-of-length-le, length-append, length-drop}
 use lib.Seq.{length-take-le, drop-cons, drop-drop, drop-length, take-all, take-at, drop-at}
@@ -17,9 +16,9 @@ use Rattle.answer.specs.Laws.{both, clear, never, rows-pass, rows-stop, not-don
 use Rattle.octets.specs.Octets.{written}
 use Rattle.rc4.specs.declared.Rc4.{Rc4}
 use Rattle.rc4.specs.declared.Ran.{Ran}
-use Rattle.rc4.specs.Cipher.{keySchedule, step, drawn, run, after, permutation, unkeyed, isUnkeyed}
-use Rattle.rc4.specs.Answers.{runAnswer, runOut, applyOut}
-use Rattle.rc4.specs.Laws.{run-done, apply-done}
+use Rattle.rc4.specs.Cipher.{keySchedule, run, after, permutation, unkeyed, isUnkeyed}
+use Rattle.rc4.specs.Answers.{runAnswer, runOut, applyOut, keyedIf, withinAnswer, withinOut}
+use Rattle.rc4.specs.Laws.{run-done, apply-done, within-fits}
 use Rattle.rc4.specs.Permutation.{unkeyed-permutation}
 use Rattle.mppe_keys.specs.declared.Strength.{Strength}
 use Rattle.mppe_keys.specs.declared.Mode.{Mode}
@@ -35,7 +34,7 @@ use Rattle.mppe.specs.declared.Link.{Link}
 use Rattle.mppe.specs.declared.Outcome.{Outcome}
 use Rattle.mppe.specs.Link.{boxFits, opensBy, changesOver, withBox, keptBox, noLink, packetOn, shortestPlain, longestPlain, front, counts, newCount, zeros, wellFormed, startKeyIn, sessionKeyIn, renewed, newLink, newLinkCode, offProtocol, bitA, bitD, header, headerIn, dataIn, countOf, Result, refusal}
 use Rattle.mppe.specs.Link.{plainRows, nextCount, nextChanges, nextKey, keysAfresh, nextBox, sealCode, sealResult, awayFor, changesFor, keyFor, boxFor, stateFor, plainFor, waited, lacks, linkAfter, frontRows, headerRows, dataRows, openCode, openResult, resetCode, resetOutcome}
-use Rattle.mppe.specs.Inner.{frontCode, roomRows, headerCode, cipherIn, settledOn, waitedOn, dataResult}
+use Rattle.mppe.specs.Inner.{frontCode, roomRows, headerCode, cipherIn, carriedCode, deciphered, decipheredOut, settledOn, waitedOn, dataResult}
 use Rattle.mppe.specs.Laws.{key-back, endings-are, well-box, fits-unmarked}
 
 -- the counts that end in 0xFF, as code counts them
@@ -126,6 +125,19 @@ fresh-stateless {made} {count} {next} {fresh} l key em en ef = rw en (by (l .mod
     by Stateless e = ef ∙ rw (em, e)
     by Stateful e = refl
 
+-- a text deciphered under a record
+pub deciphered-is : {ran : Ran} {ys : List ℕ} {n : ℕ} (l : Link) (fresh : Bool) (text out : List ℕ) → length (l .session) ≡ 16 → shortestPlain ≤ length text
+    → length text ≤ longestPlain → length text ≤ length out → n ≡ keyLength (l .strength)
+    → (ran ≡ withinAnswer (l .state) fresh (take n (l .session)) 0x0021 0x00FA text out) × (ys ≡ withinOut (l .state) fresh (take n (l .session)) 0x0021 0x00FA text out)
+    → (ran ≡ deciphered l fresh text) × (ys ≡ decipheredOut l fresh text out)
+unfolding deciphered decipheredOut keyedIf
+deciphered-is l fresh text out full long short fits en (er, ey) =
+    let most = key-most (l .strength) in
+    let least = key-least (l .strength) in
+    let key : length (sessionKeyIn l) ≡ keyLength (l .strength) = length-take-le (keyLength (l .strength)) (l .session) (omega arith) in
+    let (answer-is, out-is) = within-fits (l .state) fresh (sessionKeyIn l) 0x0021 0x00FA text out (omega arith) (omega arith) long (omega arith) fits in
+    (er ∙ rw en answer-is, ey ∙ rw en out-is)
+
 -- a record after draws
 pub settled-stateful : {r : Link} {t : Bool} (l : Link) (drawn : Rc4) → t ≡ byMode (l .mode) false true → t ≡ true → r ≡ withBox l drawn false → r ≡ settledOn l drawn
 settled-stateful l drawn e t er = er ∙ by (l .mode) (sym e ∙ t)
@@ -188,14 +200,10 @@ front-put false count a b out e ef ea eb h long =
     let low : b ≡ (0 + bitD + count) / 256 ^ 0 % 256 = omega arith in
     rw (e, take-all (length out) (0x00 ∷ 0xFD ∷ a ∷ b ∷ []) long, high, low)
 
--- the first two octets of what a cipher gives
-pub pair-runs : {r : Bool} {two : List ℕ} (s : Rc4) (text : List ℕ) → two ≡ drawn s ∷ drawn (step s) ∷ []
-    → r ≡ outside 0x0021 0x00FA (bitXor (getD text 0 0) (getD two 0 0) * 256 + bitXor (getD text 1 0) (getD two 1 0)) → 2 ≤ length text
-    → r ≡ offProtocol (run s text)
-unfolding run
-pair-runs s [] e er h = absurd (omega arith)
-pair-runs s (x ∷ []) e er h = absurd (omega arith)
-pair-runs s (x ∷ y ∷ text) e er h = er ∙ rw e
+-- the only row of a table decides
+decided : (n : ℕ) (t : Bool) → (firstOf ((n, t) ∷ []) ≡ done → ⊥) → t ≡ true
+decided n true h = refl
+decided n false h = absurd (h refl)
 
 -- a start key of a wrong length, and one of the right one
 new-code : {k : Key} (s : Strength) (start : List ℕ) → k ≡ initialKeyAnswer s start → k .answer ≡ newLinkCode s start
@@ -205,11 +213,7 @@ new-code s start e = ap (λ (k : Key). k .answer) e
 pub new-refused : {k : Key} {l : Link} (s : Strength) (mode : Mode) (start : List ℕ) → k ≡ initialKeyAnswer s start → (k .answer ≡ done → ⊥)
     → l ≡ noLink s mode → record { answer = size; link = l } ≡ newLink s mode start
 unfolding newLink
-new-refused s mode start e h el = rw (only (wrong (keyLength s) start) (λ z. h (new-code s start e ∙ z)), el)
-  where
-    only : (t : Bool) → (firstOf ((size, t) ∷ []) ≡ done → ⊥) → t ≡ true
-    only true h = refl
-    only false h = absurd (h refl)
+new-refused s mode start e h el = rw (decided size (wrong (keyLength s) start) (λ z. h (new-code s start e ∙ z)), el)
 
 pub new-done : {k : Key} {places : List ℕ} {state : Rc4} {mark : Bool} (s : Strength) (mode : Mode) (start : List ℕ) → k ≡ initialKeyAnswer s start
     → k .answer ≡ done → places ≡ written (take 16 start) (replicate 16 0) → state ≡ unkeyed → mark ≡ byMode mode false true
@@ -446,17 +450,16 @@ cipher-for true (suc n) keyed held = rw (ne-eqb (suc n) 0 (suc-ne-zero n))
 cipher-for false zero keyed held = refl
 cipher-for false (suc n) keyed held = rw (ne-eqb (suc n) 0 (suc-ne-zero n))
 
-abbrev pub Keyed : (h made : ℕ) (next : Link) (lacksA fresh : Bool) (cipher : Rc4) → Type 0
-Keyed h made next lacksA fresh cipher =
-    (lacksA ≡ lacks bitA h) × (fresh ≡ (not (eqb made 0) || not lacksA)) × (cipher ≡ pick fresh (keySchedule (sessionKeyIn next)) (next .state))
+abbrev pub Freshly : (h made : ℕ) (lacksA fresh : Bool) → Type 0
+Freshly h made lacksA fresh = (lacksA ≡ lacks bitA h) × (fresh ≡ (not (eqb made 0) || not lacksA))
 
-deciphers : {next : Link} {lacksA fresh : Bool} {cipher : Rc4} (away made : ℕ) (l : Link) (h : ℕ) → length (l .session) ≡ 16 → Worked l h away made next
-    → Keyed h made next lacksA fresh cipher → cipher ≡ stateFor l h
+deciphers : {next : Link} {lacksA fresh : Bool} (away made : ℕ) (l : Link) (h : ℕ) → length (l .session) ≡ 16 → Worked l h away made next
+    → Freshly h made lacksA fresh → cipherIn next fresh ≡ stateFor l h
 unfolding stateFor boxFor
-deciphers {next} away made l h full work (ea, ef, ec) =
+deciphers {next} away made l h full work (ea, ef) =
     let (made-is, is, kept) = worked-is away made l h full work in
     let state : next .state ≡ l .state = ap (λ (m : Link). m .state) is in
-    ec ∙ rw (ef, ea, kept, state, made-is) (cipher-for (lacks bitA h) (changesFor l h) (keySchedule (keyFor l h)) (l .state))
+    rw (ef, ea, kept, state, made-is) (cipher-for (lacks bitA h) (changesFor l h) (keySchedule (keyFor l h)) (l .state))
 
 -- data that are waited for
 pub data-waits : {code away made : ℕ} {next : Link} {r : Outcome} (far : ℕ) (l : Link) (h : ℕ) (text out : List ℕ) → length (l .session) ≡ 16
@@ -472,37 +475,37 @@ data-waits {code} {away} {made} {next} far l h text out full e z work er =
     let state : next .state ≡ l .state = ap (λ (m : Link). m .state) is in
     rw code′ (er ∙ rw (kept, state, made-is, is), refl)
 
--- data refused by the last row
-pub data-off : {code away made : ℕ} {next : Link} {lacksA fresh : Bool} {cipher : Rc4} {off : Bool} {r : Outcome} (far : ℕ) (l : Link) (h : ℕ) (text out : List ℕ)
-    → length (l .session) ≡ 16 → code ≡ headerCode far (l .mode) (l .waiting) h away (length text) (length out) → code ≡ done → Worked l h away made next
-    → Keyed h made next lacksA fresh cipher → off ≡ offProtocol (run cipher text) → off ≡ true → r ≡ refusal protocol l [] .outcome
-    → Gives r out (dataResult far l h text out)
-unfolding dataResult plainFor
-data-off {code} {away} {made} far l h text out full e z work keyed eo t er =
-    let (fits, last) = data-passed far away l h text (length out) e z (work .0) in
-    let box = deciphers away made l h full work keyed in
-    let off : offProtocol (plainFor l h text) ≡ true = unfold plainFor in ap (λ (s : Rc4). offProtocol (run s text)) (sym box) ∙ sym eo ∙ t in
-    let code : protocol ≡ firstOf (headerRows far l h ++ dataRows l h text (length out)) = sym (last ∙ rw off) in
-    open-refusal _ (waited l h out) (firstOf (headerRows far l h ++ dataRows l h text (length out))) l out code (λ q. omega (arith, q)) (λ q. omega (arith, q)) er
+-- data refused by the last row, and data that are opened
+module _ {code away made : ℕ} {next : Link} {lacksA fresh : Bool} {ran : Ran} {out₁ : List ℕ} (far : ℕ) (l : Link) (h : ℕ) (text out : List ℕ)
+    (full : length (l .session) ≡ 16) (e : code ≡ headerCode far (l .mode) (l .waiting) h away (length text) (length out)) (z : code ≡ done)
+    (work : Worked l h away made next) (keyed : Freshly h made lacksA fresh)
+    (ec : (ran ≡ deciphered next fresh text) × (out₁ ≡ decipheredOut next fresh text out)) where
+  last-row : ran .answer ≡ firstOf (headerRows far l h ++ dataRows l h text (length out))
+  unfolding deciphered plainFor
+  last-row = ap (λ (r : Ran). r .answer) (ec .0) ∙ rw (deciphers away made l h full work keyed) (sym (data-passed far away l h text (length out) e z (work .0) .1))
 
--- data that are opened
-pub data-opened : {code away made : ℕ} {next after′ : Link} {lacksA fresh : Bool} {cipher : Rc4} {off : Bool} {ran : Ran} {out₁ : List ℕ} (far : ℕ) (l : Link) (h : ℕ) (text out : List ℕ)
-    → length (l .session) ≡ 16 → code ≡ headerCode far (l .mode) (l .waiting) h away (length text) (length out) → code ≡ done → Worked l h away made next
-    → Keyed h made next lacksA fresh cipher → off ≡ offProtocol (run cipher text) → off ≡ false → (ran ≡ runAnswer cipher text out) × (out₁ ≡ runOut cipher text out)
-    → length text ≤ longestPlain → after′ ≡ settledOn next (ran .state)
-    → Gives (record { answer = done; changes = made; link = after′ }) out₁ (dataResult far l h text out)
-unfolding dataResult plainFor
-data-opened {code} {away} {made} {next} {after′} {lacksA} {fresh} {cipher} {off} {ran} {out₁} far l h text out full e z work keyed eo t (er, eu) small el =
-    let (fits, last) = data-passed far away l h text (length out) e z (work .0) in
-    let (made-is, is, kept) = worked-is away made l h full work in
-    let box = deciphers away made l h full work keyed in
-    let off : offProtocol (plainFor l h text) ≡ false = unfold plainFor in ap (λ (s : Rc4). offProtocol (run s text)) (sym box) ∙ sym eo ∙ t in
-    let code : firstOf (headerRows far l h ++ dataRows l h text (length out)) ≡ done = last ∙ rw off in
-    let (state-is, run-is) = run-done (stateFor l h) text out (omega arith) fits in
-    let ran-is : ran ≡ record { answer = done; state = after (stateFor l h) text } = er ∙ rw box state-is in
-    let left : ran .state ≡ after (stateFor l h) text = ap (λ (r : Ran). r .state) ran-is in
-    let settled : after′ ≡ linkAfter l h text = el ∙ rw (is, left) in
-    rw (code, settled, made-is) (refl, eu ∙ rw box run-is)
+  pub data-off : {r : Outcome} → (ran .answer ≡ done → ⊥) → r ≡ refusal protocol l [] .outcome → Gives r out₁ (dataResult far l h text out)
+  unfolding dataResult deciphered decipheredOut
+  data-off some el =
+      let plain : List ℕ = run (cipherIn next fresh) text in
+      let judged : ran .answer ≡ carriedCode plain = unfold deciphered in ap (λ (r : Ran). r .answer) (ec .0) in
+      let off : carriedCode plain ≡ protocol = ap (λ t. firstOf ((protocol, t) ∷ [])) (decided protocol (offProtocol plain) (λ q. some (judged ∙ q))) in
+      let code : protocol ≡ firstOf (headerRows far l h ++ dataRows l h text (length out)) = sym (judged ∙ off) ∙ last-row in
+      let kept : out₁ ≡ out = unfold decipheredOut in ec .1 ∙ rw off in
+      rw kept (open-refusal _ (waited l h out) (firstOf (headerRows far l h ++ dataRows l h text (length out))) l out code (λ q. omega (arith, q)) (λ q. omega (arith, q)) el)
+
+  pub data-opened : {after′ : Link} → ran .answer ≡ done → after′ ≡ settledOn next (ran .state)
+      → Gives (record { answer = done; changes = made; link = after′ }) out₁ (dataResult far l h text out)
+  unfolding dataResult plainFor deciphered decipheredOut
+  data-opened {after′} done-is el =
+      let plain : List ℕ = run (cipherIn next fresh) text in
+      let (made-is, is, kept) = worked-is away made l h full work in
+      let box = deciphers away made l h full work keyed in
+      let code : firstOf (headerRows far l h ++ dataRows l h text (length out)) ≡ done = sym last-row ∙ done-is in
+      let judged : carriedCode plain ≡ done = unfold deciphered in sym (ap (λ (r : Ran). r .answer) (ec .0)) ∙ done-is in
+      let left : ran .state ≡ after (stateFor l h) text = unfold deciphered in ap (λ (r : Ran). r .state) (ec .0) ∙ rw (judged, box) in
+      let settled : after′ ≡ linkAfter l h text = el ∙ rw (left, is) in
+      rw (code, settled, made-is) (refl, ec .1 ∙ rw (judged, box))
 
 -- a Reset-Request: a record that is not well formed, octets that are none, and one that is taken
 pub reset-ill : {r : Outcome} (l : Link) (request : List ℕ) → wellFormed l ≡ false → r ≡ refusal notRecord l [] .outcome → r ≡ resetOutcome l request

@@ -4,14 +4,16 @@ use mathlib.Core.List.{List, [], _∷_, _++_}
 use Prim.Native.Nat.{ℕ}
 use lib.Dec.{eqb, ltb}
 use lib.ListN.{length}
-use Rattle.answer.specs.Answer.{room, flags, repeat, late, waiting, pick, firstOf, onDone}
+use Rattle.answer.specs.Answer.{room, protocol, flags, repeat, late, waiting, pick, firstOf, onDone}
+use Rattle.octets.specs.Octets.{written}
 use Rattle.rc4.specs.declared.Rc4.{Rc4}
-use Rattle.rc4.specs.Cipher.{keySchedule}
+use Rattle.rc4.specs.declared.Ran.{Ran}
+use Rattle.rc4.specs.Cipher.{keySchedule, run, after}
 use Rattle.mppe_keys.specs.declared.Mode.{Mode}
 use Rattle.mppe_keys.specs.Keys.{byMode}
 use Rattle.mppe.specs.declared.Link.{Link}
 use Rattle.mppe.specs.declared.Outcome.{Outcome}
-use Rattle.mppe.specs.Link.{bitA, bitD, lacks, opensBy, sessionKeyIn, withBox, keptBox, Result, frontRows, headerRows, dataRows, openedBy}
+use Rattle.mppe.specs.Link.{offProtocol, bitA, bitD, lacks, opensBy, sessionKeyIn, withBox, keptBox, Result, frontRows, headerRows, dataRows, openedBy}
 
 -- the number by the rows that the record and the packet's shape decide: 7, 1
 unfoldable pub frontCode : ℕ → Link → List ℕ → ℕ
@@ -35,6 +37,21 @@ headerCode far mode mark h away n lent = firstOf (roomRows far mode mark h away 
 -- RC4 keyed afresh with a record's session key, or as the record holds it
 abbrev pub cipherIn : Link → (fresh : Bool) → Rc4
 cipherIn l fresh = pick fresh (keySchedule (sessionKeyIn l)) (l .state)
+
+-- a text deciphered under a record: the number by its protocol number, and the box after the draws; a refused one leaves the record's box and
+-- the lent buffer as they were
+abbrev pub carriedCode : (plain : List ℕ) → ℕ
+carriedCode plain = firstOf ((protocol, offProtocol plain) ∷ [])
+
+unfoldable pub deciphered : (l : Link) (fresh : Bool) (text : List ℕ) → Ran
+deciphered l fresh text =
+    let code : ℕ = carriedCode (run (cipherIn l fresh) text) in
+    record { answer = code; state = onDone code (after (cipherIn l fresh) text) (l .state) }
+
+unfoldable pub decipheredOut : (l : Link) (fresh : Bool) (text out : List ℕ) → List ℕ
+decipheredOut l fresh text out =
+    let plain : List ℕ = run (cipherIn l fresh) text in
+    onDone (carriedCode plain) (written plain out) out
 
 -- a record whose key and count are moved on, after draws that left a box, and where it waits
 abbrev pub settledOn : Link → Rc4 → Link

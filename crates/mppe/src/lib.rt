@@ -9,13 +9,14 @@ ghost use Rattle.answer.specs.Answer.{pick, outside};
 ghost use Rattle.octets.specs.Octets.{written};
 ghost use Rattle.rc4.specs.Cipher.{run, after};
 ghost use Rattle.mppe_keys.specs.Keys.{byMode, changes as changesOf};
-ghost use Rattle.mppe.specs.Link.{shortestPlain, longestPlain, front, counts, zeros, boxFits, wellFormed, noLink, newLink, startKeyIn, sessionKeyIn, withBox, keptBox, renewed, offProtocol, bitA, bitD, header, lacks, opensBy, distance as distanceOf, farthest, changesOver, refusal, sealCode, sealResult, openResult, resetOutcome};
-ghost use Rattle.mppe.specs.Inner.{frontCode, headerCode, cipherIn, settledOn, waitedOn, dataResult};
+ghost use Rattle.mppe.specs.Link.{shortestPlain, longestPlain, front, counts, zeros, boxFits, wellFormed, noLink, newLink, startKeyIn, sessionKeyIn, withBox, keptBox, renewed, bitA, bitD, header, lacks, opensBy, distance as distanceOf, farthest, changesOver, refusal, sealCode, sealResult, openResult, resetOutcome};
+ghost use Rattle.mppe.specs.Inner.{frontCode, headerCode, cipherIn, deciphered, decipheredOut, settledOn, waitedOn, dataResult};
 use mppe_keys::Mode;
 use mppe_keys::Strength;
 use mppe_keys::is_stateful;
 use mppe_keys::key_length;
 use octets::pair;
+use rc4::Ran;
 use rc4::Rc4;
 
 // The shortest plain packet: two protocol octets.
@@ -149,11 +150,11 @@ impl Link {
             return refused(code, self);
         }
         let next = moved(self, count, changes);
-        let cipher = cipher_of(next, either(changes != 0, !lacks_a(header)));
-        if runs_off_protocol(cipher, text) {
+        let fresh = either(changes != 0, !lacks_a(header));
+        let ran = decipher(next, fresh, text, out);
+        if ran.answer != answer::DONE {
             return refused(answer::PROTOCOL, self);
         }
-        let ran = cipher.run(text, out);
         let left = ran.state;
         Outcome {
             answer: answer::DONE,
@@ -385,15 +386,6 @@ fn off_protocol(high: u8, low: u8) -> bool
     HIGHEST_PROTOCOL < number
 }
 
-// The same for a text that a cipher deciphers.
-fn runs_off_protocol(cipher: Rc4, text: &[u8]) -> bool
-    requires { ⌜ 2 ≤ length (now text) ⌝ }
-    ensures { λ r. ⌜ r ≡ offProtocol (run cipher (now (text .entry))) ⌝ }
-{
-    let next = cipher.next_two();
-    off_protocol(text[0] ^ next[0], text[1] ^ next[1])
-}
-
 // The count of the packet after one.
 fn next_count(count: u16) -> u16
     requires { ⌜ count < counts ⌝ }
@@ -477,6 +469,27 @@ fn encipher(link: Link, fresh: bool, text: &[u8], out: &mut [u8]) -> Rc4
             ran.state
         }
     }
+}
+
+// Deciphers a text into a lent buffer, with RC4 keyed afresh or as a record holds it, once its protocol number is found to be one that is
+// carried.
+fn decipher(link: Link, fresh: bool, text: &[u8], out: &mut [u8]) -> Ran
+    requires { ⌜ (shortestPlain ≤ length (now text)) × (length (now text) ≤ longestPlain) × (length (now text) ≤ length (now out)) ⌝ }
+    ensures { λ r. ⌜ (r ≡ deciphered link fresh (now (text .entry)))
+        × (now (out .exit) ≡ decipheredOut link fresh (now (text .entry)) (now (out .entry))) ⌝ }
+{
+    let strength = link.strength;
+    let session = link.session;
+    let octets = key_length(strength);
+    let state = link.state;
+    state.run_within(
+        fresh,
+        &session[..octets],
+        LOWEST_PROTOCOL,
+        HIGHEST_PROTOCOL,
+        text,
+        out,
+    )
 }
 
 // A record after draws that left a box: a stateless one keeps its own, and neither waits.

@@ -43,6 +43,9 @@ zeros-octets zero k = omega arith
 zeros-octets (suc m) zero = omega arith
 zeros-octets (suc m) (suc k) = zeros-octets m k
 
+pub zero-cells : OctetCells (replicate 256 0)
+zero-cells = record { long = refl; octets = zeros-octets 256 }
+
 -- a box of octets whose first n cells are those of another
 pub record Copied (from to : List ℕ) (n : ℕ) : Type 0 where
   pub within : n ≤ 256
@@ -50,8 +53,8 @@ pub record Copied (from to : List ℕ) (n : ℕ) : Type 0 where
   pub same : take n to ≡ take n from
 
 -- none of them
-pub copied-none : (from : List ℕ) → Copied from (replicate 256 0) 0
-copied-none from = record { within = omega arith; whole = record { long = refl; octets = zeros-octets 256 }; same = refl }
+pub copied-none : (from to : List ℕ) → OctetCells to → Copied from to 0
+copied-none from to whole = record { within = omega arith; whole = whole; same = refl }
 
 -- one more
 pub copied-more : (from to : List ℕ) (n k v : ℕ) → Copied from to (n + k) → v ≡ getD from (n + k) 0 → v < 256 → length from ≡ 256 → n + k < 256

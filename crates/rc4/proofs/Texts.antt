@@ -1,20 +1,21 @@
--- A whole text: the parts of a run put together, and what a run answers.
-use mathlib.Core.Path.{_≡_, sym, _∙_}
-use mathlib.Core.List.{List, [], _++_, append-assoc, append-nil}
+-- A whole text: the parts of a run put together, what a run answers, and one that is judged by its first two octets.
+use mathlib.Core.Path.{_≡_, refl, sym, _∙_}
+use mathlib.Core.Bool.{Bool, true, false}
+use mathlib.Core.List.{List, [], _∷_, _++_, append-assoc, append-nil}
 use Prim.Native.Nat.{ℕ, _+_, _-_, _%_, _<_, _≤_}
 use native.Mathlib.Omega.{arith}
-use borrow.Author.Tests.{lt-ltb, le-ltb}
-use lib.ListN.{length, take, drop, length-append, length-drop, take-append-drop, drop-of-length-le}
+use borrow.Author.Tests.{ltb-false}
+use lib.ListN.{length, getD, take, drop, length-append, length-drop, take-append-drop, drop-of-length-le}
 use lib.Seq.{take-all, take-at, drop-at, drop-drop, length-take-le}
-use Rattle.answer.specs.Answer.{done, room, size}
-use Rattle.answer.specs.Laws.{not-done}
-use Rattle.octets.specs.Octets.{written, longestText}
+use Rattle.answer.specs.Answer.{done, room, size, protocol, pick, outside, firstOf}
+use Rattle.answer.specs.Laws.{clear, rows-pass, rows-stop, not-done, outside-low, outside-high, outside-none, within}
+use Rattle.octets.specs.Octets.{fromBigEndian, pairAt, written, longestText}
 use Rattle.rc4.specs.declared.Rc4.{Rc4}
 use Rattle.rc4.specs.declared.Ran.{Ran}
 use Rattle.rc4.specs.Cipher.{box, rounds, keySchedule, run, after}
-use Rattle.rc4.specs.Inner.{wrapped, Ready, Finished}
-use Rattle.rc4.specs.Answers.{shortestKey, longestKey, runCode, runAnswer, runOut, applyCode, applyOut}
-use Rattle.rc4.specs.Laws.{run-length, run-cut, after-cut, apply-done}
+use Rattle.rc4.specs.Inner.{wrapped, OctetCells, Ready, Finished}
+use Rattle.rc4.specs.Answers.{shortestKey, longestKey, keyRows, textRows, runCode, runAnswer, runOut, applyCode, applyOut, keyedIf, number, numberedRows, numberRows, numberCode, withinCode, withinAnswer, withinOut}
+use Rattle.rc4.specs.Laws.{run-length, run-cut, after-cut}
 use Rattle.rc4.proofs.Draws.{unwrapped}
 
 -- a part from m on is what is left
@@ -93,31 +94,122 @@ whole-text s i j j₁ ec ei ej f ec′ ei′ ej′ hi hj =
     let same = unwrapped s i j ec ei ej hi hj in
     (rw (ec′, ei′, ej′) (rw same at (f .stepped)), rw same at (f .wrote))
 
--- a refused run answers its number, and leaves the state and the buffer as they are
+-- what the rows say of a key and of lengths where none applies
+pub key-fits : {t : Bool} (key : List ℕ) → t ≡ outside shortestKey longestKey (length key) → t ≡ false → shortestKey ≤ length key
+key-fits key e z = within shortestKey longestKey (length key) (sym e ∙ z) .0
+
+pub text-fits : {code : ℕ} (n lent : ℕ) → code ≡ firstOf (textRows n lent) → code ≡ done → (n ≤ longestText) × (n ≤ lent)
+text-fits n lent e z =
+    let sizes = clear size (textRows n lent) refl (sym e ∙ z) in
+    let rooms = clear room (textRows n lent) refl (sym e ∙ z) in
+    (ltb-false longestText n (sizes .0), ltb-false lent n (rooms .0))
+
+pub numbered-fits : {code : ℕ} (fresh : Bool) (key : List ℕ) (n lent : ℕ) → code ≡ firstOf (numberedRows fresh key n lent) → code ≡ done
+    → (fresh ≡ true → shortestKey ≤ length key) × (number ≤ n) × (n ≤ longestText) × (n ≤ lent)
+numbered-fits fresh key n lent e z =
+    let sizes = clear size (numberedRows fresh key n lent) refl (sym e ∙ z) in
+    let rooms = clear room (numberedRows fresh key n lent) refl (sym e ∙ z) in
+    let keyed : fresh ≡ true → shortestKey ≤ length key = λ f. within shortestKey longestKey (length key) (rw f at (sizes .0)) .0 in
+    (keyed, ltb-false n number (sizes .1 .0), ltb-false longestText n (sizes .1 .1 .0), ltb-false lent n (rooms .0))
+
+-- what a loop over a whole text asks
+pub ready-text : {c text out : List ℕ} (i j : ℕ) → OctetCells c → i < 256 → j < 256 → length text ≤ longestText → length text ≤ length out → Ready c i j text out
+ready-text i j whole hi hj h fits = record { whole = whole; i-near = omega arith; j-near = omega arith; room = fits }
+
+-- the rows of a key before others
+pub no-key : {t : Bool} (key : List ℕ) (rows : List (ℕ × Bool)) → t ≡ outside shortestKey longestKey (length key) → t ≡ true → size ≡ firstOf (keyRows key ++ rows)
+no-key key rows e z = rw (← e, z)
+
+pub behind-key : {t : Bool} {n : ℕ} (key : List ℕ) (rows : List (ℕ × Bool)) → t ≡ outside shortestKey longestKey (length key) → t ≡ false → n ≡ firstOf rows
+    → n ≡ firstOf (keyRows key ++ rows)
+behind-key key rows e z en = rw (← e, z) en
+
+-- a run is refused by its number, and leaves the state and the buffer as they are ..
 module _ (s : Rc4) (text out : List ℕ) where
-  pub too-long : longestText < length text → (_≡_ {A = Ran} (record { answer = size; state = s }) (runAnswer s text out)) × (out ≡ runOut s text out)
+  pub run-refused : {n : ℕ} → n ≡ runCode text out → (n ≡ done → ⊥) → (_≡_ {A = Ran} (record { answer = n; state = s }) (runAnswer s text out)) × (out ≡ runOut s text out)
   unfolding runAnswer runOut
-  too-long h =
-      let code : runCode text out ≡ size = rw (lt-ltb longestText (length text) h) in
-      (rw code, rw code)
+  run-refused e h =
+      let some : runCode text out ≡ done → ⊥ = λ z. h (e ∙ z) in
+      (rw (e, not-done (runCode text out) (after s text) s some), sym (not-done (runCode text out) (written (run s text) out) out some))
 
-  pub no-room : length text ≤ longestText → length out < length text → (_≡_ {A = Ran} (record { answer = room; state = s }) (runAnswer s text out)) × (out ≡ runOut s text out)
-  unfolding runAnswer runOut
-  no-room h short =
-      let code : runCode text out ≡ room = rw (le-ltb longestText (length text) h, lt-ltb (length out) (length text) short) in
-      (rw code, rw code)
+-- .. and so is one whose number is not within bounds
+module _ (s : Rc4) (fresh : Bool) (key : List ℕ) (lowest highest : ℕ) (text out : List ℕ) where
+  pub numbered-stop : {n : ℕ} → n ≡ firstOf (numberedRows fresh key (length text) (length out)) → (n ≡ done → ⊥) → n ≡ withinCode s fresh key lowest highest text out
+  numbered-stop e h = e ∙ sym (rows-stop (numberedRows fresh key (length text) (length out)) (numberRows lowest highest (run (keyedIf s fresh key) text)) (λ z. h (e ∙ z)))
 
--- a refused key, text or buffer is left by its number
+  pub within-refused : {n : ℕ} {out′ : List ℕ} → n ≡ withinCode s fresh key lowest highest text out → (n ≡ done → ⊥) → out′ ≡ out
+      → (_≡_ {A = Ran} (record { answer = n; state = s }) (withinAnswer s fresh key lowest highest text out)) × (out′ ≡ withinOut s fresh key lowest highest text out)
+  unfolding withinAnswer withinOut
+  within-refused e h eo =
+      let code = withinCode s fresh key lowest highest text out in
+      let some : code ≡ done → ⊥ = λ z. h (e ∙ z) in
+      (rw (e, not-done code (after (keyedIf s fresh key) text) s some), eo ∙ sym (not-done code (written (run (keyedIf s fresh key) text) out) out some))
+
+  -- over its cells as words
+  module _ {words : List ℕ} {i j : ℕ} (ec : words ≡ keyedIf s fresh key .cells) (ei : i ≡ pick fresh 0 (s .i)) (ej : j ≡ pick fresh 0 (s .j)) (hi : i < 256) (hj : j < 256) where
+    indices : (i ≡ keyedIf s fresh key .i) × (j ≡ keyedIf s fresh key .j)
+    unfolding keyedIf keySchedule
+    indices = by fresh ei ej
+      where
+        by : (fresh : Bool) → i ≡ pick fresh 0 (s .i) → j ≡ pick fresh 0 (s .j) → (i ≡ pick fresh (keySchedule key) s .i) × (j ≡ pick fresh (keySchedule key) s .j)
+        by true ei ej = (ei, ej)
+        by false ei ej = (ei, ej)
+
+    pub words-number : {n r : ℕ} → n ≡ firstOf (numberedRows fresh key (length text) (length out)) → n ≡ done → r ≡ numberCode lowest highest (run (wrapped words i j) text)
+        → r ≡ withinCode s fresh key lowest highest text out
+    words-number e z er =
+        (rw (unwrapped (keyedIf s fresh key) i j ec (indices .0) (indices .1) hi hj) at er)
+        ∙ sym (rows-pass (numberedRows fresh key (length text) (length out)) (numberRows lowest highest (run (keyedIf s fresh key) text)) refl (sym e ∙ z))
+
+    pub words-done : {n j₁ i′ j′ : ℕ} {words′ c out′ : List ℕ} → n ≡ withinCode s fresh key lowest highest text out → n ≡ done → Finished words i j text out words′ j₁ out′
+        → c ≡ words′ → i′ ≡ (i + length text) % 256 → j′ ≡ j₁ % 256
+        → (_≡_ {A = Ran} (record { answer = done; state = box c i′ j′ }) (withinAnswer s fresh key lowest highest text out)) × (out′ ≡ withinOut s fresh key lowest highest text out)
+    unfolding withinAnswer withinOut
+    words-done {j₁ = j₁} e z f ec′ ei′ ej′ =
+        let code = sym e ∙ z in
+        let (es, eo) = whole-text (keyedIf s fresh key) i j j₁ ec (indices .0) (indices .1) f ec′ ei′ ej′ hi hj in
+        (rw (code, es), rw code eo)
+
+-- the same of a key and a text
 module _ (key text out : List ℕ) where
   pub apply-refused : {n : ℕ} → n ≡ applyCode key text out → (n ≡ done → ⊥) → (n ≡ applyCode key text out) × (out ≡ applyOut key text out)
   unfolding applyOut
   apply-refused e h = (e, sym (not-done (applyCode key text out) (written (run (keySchedule key) text) out) out (λ z. h (e ∙ z))))
 
-  -- what is done, from a run over the box of the key
-  pub applied : {words words′ out′ : List ℕ} {j : ℕ} → words ≡ rounds key 256 .cells → Finished words 0 0 text out words′ j out′
-      → shortestKey ≤ length key → length key ≤ longestKey → length text ≤ longestText → length text ≤ length out
-      → (done ≡ applyCode key text out) × (out′ ≡ applyOut key text out)
-  unfolding keySchedule
-  applied e f low high h fits =
-      let whole = apply-done key text out low high h fits in
-      (sym (whole .0), (rw e at (f .wrote)) ∙ sym (whole .1))
+  pub applied : {n j : ℕ} {words words′ out′ : List ℕ} → n ≡ applyCode key text out → n ≡ done → words ≡ rounds key 256 .cells
+      → Finished words 0 0 text out words′ j out′ → (done ≡ applyCode key text out) × (out′ ≡ applyOut key text out)
+  unfolding keySchedule applyOut
+  applied e z ew f = let code = sym e ∙ z in (sym code, (rw ew at (f .wrote)) ∙ rw code)
+
+-- the first two octets, run into a buffer of their own: their number ..
+pair-two : {n : ℕ} {two : List ℕ} (s : Rc4) (text : List ℕ) → two ≡ written (run s (take 2 text)) (0 ∷ 0 ∷ [])
+    → n ≡ fromBigEndian (getD two 0 0 ∷ getD two 1 0 ∷ []) → 2 ≤ length text → n ≡ pairAt 0 (run s text)
+unfolding run
+pair-two s [] e en h = absurd (omega arith)
+pair-two s (x ∷ []) e en h = absurd (omega arith)
+pair-two s (x ∷ y ∷ text) e en h = en ∙ rw e
+
+module _ (s : Rc4) (text : List ℕ) (lowest highest : ℕ) {n : ℕ} {two : List ℕ} (e : two ≡ written (run s (take 2 text)) (0 ∷ 0 ∷ []))
+    (en : n ≡ fromBigEndian (getD two 0 0 ∷ getD two 1 0 ∷ [])) (long : 2 ≤ length text) where
+  pub number-low : n < lowest → protocol ≡ numberCode lowest highest (run s text)
+  number-low h = rw (← pair-two s text e en long, outside-low lowest highest n h)
+
+  pub number-high : lowest ≤ n → highest < n → protocol ≡ numberCode lowest highest (run s text)
+  number-high h over = rw (← pair-two s text e en long, outside-high lowest highest n h over)
+
+  pub number-within : lowest ≤ n → n ≤ highest → done ≡ numberCode lowest highest (run s text)
+  number-within h under = rw (← pair-two s text e en long, outside-none lowest highest n h under)
+
+-- .. and from there into the buffer lent
+pub ready-two : {c text out : List ℕ} {i j : ℕ} → Ready c i j text out → 2 ≤ length text → Ready c i j (take 2 text) (0 ∷ 0 ∷ [])
+ready-two {text = text} r h =
+    let front = ready-front 2 r h in
+    record { whole = front .whole; i-near = front .i-near; j-near = front .j-near; room = omega (arith, length-take-le 2 text h) }
+
+pub lent-two : {c c₁ out₁ two : List ℕ} {i j j₁ : ℕ} (text out : List ℕ) → Finished c i j (take 2 text) (0 ∷ 0 ∷ []) c₁ j₁ two
+    → out₁ ≡ written (take (length out) two) out → 2 ≤ length text → length text ≤ length out → Finished c i j (take 2 text) out c₁ j₁ out₁
+lent-two {c} {c₁} {out₁} {two} {i} {j} text out f e h fits =
+    let plain = run (wrapped c i j) (take 2 text) in
+    let size : length plain ≡ 2 = run-length (wrapped c i j) (take 2 text) ∙ length-take-le 2 text h in
+    let same : two ≡ plain = f .wrote ∙ rw (drop-of-length-le {A = ℕ} (0 ∷ 0 ∷ []) {i = length plain} (omega arith), append-nil) in
+    record { wrote = e ∙ rw (same, take-all (length out) plain (omega arith)); stepped = f .stepped; whole = f .whole; near = f .near }

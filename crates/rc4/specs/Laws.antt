@@ -1,5 +1,6 @@
 -- Laws of RC4, which follow from the definitions alone.
 use mathlib.Core.Path.{_≡_, refl, ap, _∙_}
+use mathlib.Core.Bool.{Bool, and-false}
 use mathlib.Core.List.{List, [], _∷_, _++_}
 use Prim.Native.Nat.{ℕ, zero, suc, _/_, _%_, _<_, _≤_}
 use native.Mathlib.Nat.{div-add-mod'}
@@ -8,11 +9,11 @@ use lib.Arith.{bin-ind}
 use lib.Bits.{bitXor, differ, xor-step, xor-self, xor-shr, xor-mod}
 use lib.ListN.{length}
 use borrow.Author.Tests.{le-ltb}
-use Rattle.answer.specs.Answer.{done}
+use Rattle.answer.specs.Answer.{done, onDone}
 use Rattle.octets.specs.Octets.{written, longestText}
 use Rattle.rc4.specs.declared.Rc4.{Rc4}
 use Rattle.rc4.specs.Cipher.{keySchedule, step, drawn, run, after}
-use Rattle.rc4.specs.Answers.{shortestKey, longestKey, keyedAnswer, runCode, runAnswer, runOut, applyCode, applyOut}
+use Rattle.rc4.specs.Answers.{shortestKey, longestKey, keyedAnswer, runCode, runAnswer, runOut, applyCode, applyOut, keyedIf, number, numberCode, withinCode, withinAnswer, withinOut}
 
 -- the result is as long as the text
 pub run-length : (s : Rc4) (text : List ℕ) → length (run s text) ≡ length text
@@ -83,3 +84,20 @@ apply-done key text out low high h fits =
     rw (le-ltb (length key) shortestKey low, le-ltb longestKey (length key) high, le-ltb longestText (length text) h, le-ltb (length out) (length text) fits)
     in
     (code, rw code)
+
+-- where a key and lengths are within their limits, the number that comes out decides
+pub within-fits : (s : Rc4) (fresh : Bool) (key : List ℕ) (lowest highest : ℕ) (text out : List ℕ) → shortestKey ≤ length key → length key ≤ longestKey
+    → number ≤ length text → length text ≤ longestText → length text ≤ length out
+    → (withinAnswer s fresh key lowest highest text out
+    ≡ record {
+      answer = numberCode lowest highest (run (keyedIf s fresh key) text);
+      state = onDone (numberCode lowest highest (run (keyedIf s fresh key) text)) (after (keyedIf s fresh key) text) s;
+    })
+    × (withinOut s fresh key lowest highest text out
+    ≡ onDone (numberCode lowest highest (run (keyedIf s fresh key) text)) (written (run (keyedIf s fresh key) text) out) out)
+unfolding withinAnswer withinOut
+within-fits s fresh key lowest highest text out low high long h fits =
+    let code : withinCode s fresh key lowest highest text out ≡ numberCode lowest highest (run (keyedIf s fresh key) text) =
+    rw (le-ltb (length key) shortestKey low, le-ltb longestKey (length key) high, and-false fresh, le-ltb (length text) number long, le-ltb longestText (length text) h, le-ltb (length out) (length text) fits)
+    in
+    (rw code, rw code)

@@ -1,19 +1,24 @@
 // RC4: the key schedule, a draw, a run over a text, and a generator lent by reference (01, "Digests, DES and RC4").
 ghost use mathlib.Core.Path.{_≡_};
-ghost use mathlib.Core.Bool.{_&&_};
+ghost use mathlib.Core.Bool.{true, _&&_};
 ghost use mathlib.Core.List.{[], _∷_};
 ghost use Prim.Native.Nat.{_+_, _%_, _^_, _<_, _≤_};
 ghost use lib.Dec.{eqb};
 ghost use lib.ListN.{length, getD, replicate};
+ghost use Rattle.answer.specs.Answer.{done, pick, outside, firstOf};
 ghost use Rattle.octets.specs.Octets.{written, longestText};
 ghost use Rattle.rc4.specs.Cipher.{below, permutation, unkeyed, inOrder, isUnkeyed, swap, rounds, step, drawn, run, after};
-ghost use Rattle.rc4.specs.Answers.{keyedAnswer, drawAnswer, runAnswer, runOut, applyCode, applyOut};
+ghost use Rattle.rc4.specs.Answers.{keyedAnswer, drawAnswer, runAnswer, runOut, applyCode, applyOut, shortestKey, longestKey, number, numberCode, textRows, numberedRows, keyedIf, withinAnswer, withinOut};
 ghost use Rattle.rc4.specs.Inner.{wrapped, firstCell, xors, OctetCells, Ready, Finished, Marked, Tells};
+
+use octets::pair;
 
 // The shortest key (01, "Lengths").
 pub const SHORTEST_KEY: usize = 1;
 // The longest key.
 pub const LONGEST_KEY: usize = 256;
+// The octets of a number in front of a text.
+const NUMBER: usize = 2;
 
 // The box and both indices. Any octets are a state.
 pub struct Rc4 {
@@ -48,7 +53,7 @@ impl Rc4 {
         if SHORTEST_KEY <= key.len() && key.len() <= LONGEST_KEY {
             let mut words = ascending();
             key_schedule(key, &mut words);
-            let cells = narrow(words);
+            let cells = narrow(&words);
             let state = Rc4 { cells, i: 0, j: 0 };
             Keyed {
                 answer: answer::DONE,
@@ -72,12 +77,13 @@ impl Rc4 {
         ensures { λ r. ⌜ r ≡ drawAnswer self ⌝ }
     {
         let cells = self.cells;
-        let mut words = widen(cells);
+        let mut words = [0u32; 256];
+        widen(cells, &mut words);
         let i = index(self.i);
         let x = first_cell(&words, i);
         let d = advance(&mut words, i, word(self.j), x);
         let state = Rc4 {
-            cells: narrow(words),
+            cells: narrow(&words),
             i: octet(i + 1),
             j: low(d.j),
         };
@@ -87,37 +93,61 @@ impl Rc4 {
         }
     }
 
-    // The next two octets, with no draw.
-    pub fn next_two(self) -> [u8; 2]
-        ensures { λ r. ⌜ r ≡ drawn self ∷ drawn (step self) ∷ [] ⌝ }
-    {
-        let cells = self.cells;
-        let mut words = widen(cells);
-        let i = index(self.i);
-        let x = first_cell(&words, i);
-        let first = advance(&mut words, i, word(self.j), x);
-        let second = advance(&mut words, i + 1, first.j, first.x);
-        [first.octet, second.octet]
-    }
-
     // A text of up to 65,535 octets, xored with the draws, into the front of a lent buffer.
     pub fn run(self, text: &[u8], out: &mut [u8]) -> Ran
         ensures { λ r. ⌜ (r ≡ runAnswer self (now (text .entry)) (now (out .entry)))
             × (now (out .exit) ≡ runOut self (now (text .entry)) (now (out .entry))) ⌝ }
     {
-        if octets::LONGEST_TEXT < text.len() {
+        let code = run_code(text, out.len());
+        if code != answer::DONE {
             return Ran {
-                answer: answer::SIZE,
-                state: self,
-            };
-        }
-        if out.len() < text.len() {
-            return Ran {
-                answer: answer::ROOM,
+                answer: code,
                 state: self,
             };
         }
         let state = run_text(self, text, out);
+        Ran {
+            answer: answer::DONE,
+            state,
+        }
+    }
+
+    // The same with the box of a key where RC4 is keyed afresh, and only where the first two octets that come out are a number within bounds.
+    pub fn run_within(
+        self,
+        fresh: bool,
+        key: &[u8],
+        lowest: u16,
+        highest: u16,
+        text: &[u8],
+        out: &mut [u8],
+    ) -> Ran
+        ensures { λ r. ⌜ (r ≡ withinAnswer self fresh (now (key .entry)) lowest highest (now (text .entry)) (now (out .entry)))
+            × (now (out .exit) ≡ withinOut self fresh (now (key .entry)) lowest highest (now (text .entry)) (now (out .entry))) ⌝ }
+    {
+        let code = within_code(fresh, key, text, out.len());
+        if code != answer::DONE {
+            return Ran {
+                answer: code,
+                state: self,
+            };
+        }
+        let mut words = ascending();
+        key_words(self, fresh, key, &mut words);
+        let i = index(start(fresh, self.i));
+        let j = word(start(fresh, self.j));
+        let judged = words_within(&mut words, i, j, lowest, highest, text, out);
+        if judged.answer != answer::DONE {
+            return Ran {
+                answer: judged.answer,
+                state: self,
+            };
+        }
+        let state = Rc4 {
+            cells: narrow(&words),
+            i: octet(i + text.len()),
+            j: low(judged.j),
+        };
         Ran {
             answer: answer::DONE,
             state,
@@ -136,8 +166,9 @@ impl Rc4 {
     pub fn unkeyed() -> Rc4
         ensures { λ r. ⌜ r ≡ unkeyed ⌝ }
     {
+        let words = ascending();
         Rc4 {
-            cells: narrow(ascending()),
+            cells: narrow(&words),
             i: 0,
             j: 0,
         }
@@ -163,17 +194,12 @@ pub fn apply(key: &[u8], text: &[u8], out: &mut [u8]) -> u8
     ensures { λ r. ⌜ (r ≡ applyCode (now (key .entry)) (now (text .entry)) (now (out .entry)))
         × (now (out .exit) ≡ applyOut (now (key .entry)) (now (text .entry)) (now (out .entry))) ⌝ }
 {
-    if key.len() < SHORTEST_KEY {
+    if no_key(key) {
         return answer::SIZE;
     }
-    if LONGEST_KEY < key.len() {
-        return answer::SIZE;
-    }
-    if octets::LONGEST_TEXT < text.len() {
-        return answer::SIZE;
-    }
-    if out.len() < text.len() {
-        return answer::ROOM;
+    let code = run_code(text, out.len());
+    if code != answer::DONE {
+        return code;
     }
     let mut words = ascending();
     key_schedule(key, &mut words);
@@ -189,6 +215,75 @@ pub fn draw_next(g: &mut Rc4) -> u8
     let d = s.draw();
     *g = d.state;
     d.octet
+}
+
+// Whether a key has no length that is allowed.
+fn no_key(key: &[u8]) -> bool
+    ensures { λ r. ⌜ r ≡ outside shortestKey longestKey (length (now (key .entry))) ⌝ }
+{
+    if key.len() < SHORTEST_KEY {
+        return true;
+    }
+    LONGEST_KEY < key.len()
+}
+
+// The same where RC4 is keyed afresh; else no key is asked for.
+fn lacks_key(fresh: bool, key: &[u8]) -> bool
+    ensures { λ r. ⌜ r ≡ fresh && outside shortestKey longestKey (length (now (key .entry))) ⌝ }
+{
+    if fresh {
+        return no_key(key);
+    }
+    false
+}
+
+// The number by the rows that a text and the length of a lent buffer decide.
+fn run_code(text: &[u8], room: usize) -> u8
+    ensures { λ r. ⌜ r ≡ firstOf (textRows (length (now (text .entry))) room) ⌝ }
+{
+    if octets::LONGEST_TEXT < text.len() {
+        return answer::SIZE;
+    }
+    if room < text.len() {
+        return answer::ROOM;
+    }
+    answer::DONE
+}
+
+// The same with a key where RC4 is keyed afresh, and a text that begins with a number.
+fn within_code(fresh: bool, key: &[u8], text: &[u8], room: usize) -> u8
+    ensures { λ r. ⌜ r ≡ firstOf (numberedRows fresh (now (key .entry)) (length (now (text .entry))) room) ⌝ }
+{
+    if lacks_key(fresh, key) {
+        return answer::SIZE;
+    }
+    if text.len() < NUMBER {
+        return answer::SIZE;
+    }
+    run_code(text, room)
+}
+
+// The box of a key where RC4 is keyed afresh, else that of a state, over the numbers 0 to 255.
+fn key_words(state: Rc4, fresh: bool, key: &[u8], words: &mut [u32; 256])
+    requires { ⌜ (now words ≡ below 256) × (fresh ≡ true → 1 ≤ length (now key)) ⌝ }
+    ensures { λ _. ⌜ (now (words .exit) ≡ keyedIf state fresh (now (key .entry)) .cells) × OctetCells (now (words .exit)) ⌝ }
+{
+    if fresh {
+        key_schedule(key, words);
+        return;
+    }
+    let cells = state.cells;
+    widen(cells, words);
+}
+
+// An index of that box.
+fn start(fresh: bool, index: u8) -> u8
+    ensures { λ r. ⌜ r ≡ pick fresh 0 index ⌝ }
+{
+    if fresh {
+        return 0;
+    }
+    index
 }
 
 // All rounds of a key over a box in place, sixteen in each turn. j is not wrapped mod 256 between them.
@@ -256,11 +351,12 @@ fn run_text(state: Rc4, text: &[u8], out: &mut [u8]) -> Rc4
         × (now (out .exit) ≡ written (run state (now (text .entry))) (now (out .entry))) ⌝ }
 {
     let cells = state.cells;
-    let mut words = widen(cells);
+    let mut words = [0u32; 256];
+    widen(cells, &mut words);
     let i = index(state.i);
     let j = run_words(&mut words, i, word(state.j), text, out);
     Rc4 {
-        cells: narrow(words),
+        cells: narrow(&words),
         i: octet(i + text.len()),
         j: low(j),
     }
@@ -274,6 +370,50 @@ fn run_words(cells: &mut [u32; 256], i: usize, j: u32, text: &[u8], out: &mut [u
     let m = before_eights(i, text.len());
     let next = run_ones(cells, i, j, &text[..m], out);
     run_rest(cells, i + m, next, &text[m..], &mut out[m..])
+}
+
+// The number answered, and the next j, not wrapped mod 256.
+struct Judged {
+    answer: u8,
+    j: u32,
+}
+
+// A text over a box in place, once the first two octets that come out are found to be a number within bounds.
+fn words_within(
+    cells: &mut [u32; 256],
+    i: usize,
+    j: u32,
+    lowest: u16,
+    highest: u16,
+    text: &[u8],
+    out: &mut [u8],
+) -> Judged
+    requires { ⌜ Ready (now cells) i j (now text) (now out) × (number ≤ length (now text)) ⌝ }
+    ensures { λ r. ⌜ (r .answer ≡ numberCode lowest highest (run (wrapped (now (cells .entry)) i j) (now (text .entry))))
+        × (r .answer ≡ done → Finished (now (cells .entry)) i j (now (text .entry)) (now (out .entry)) (now (cells .exit)) (r .j) (now (out .exit)))
+        × ((r .answer ≡ done → ⊥) → now (out .exit) ≡ now (out .entry)) ⌝ }
+{
+    let mut first = [0u8; 2];
+    let next = run_ones(cells, i, j, &text[..NUMBER], &mut first);
+    let number = pair(first[0], first[1]);
+    if number < lowest {
+        return Judged {
+            answer: answer::PROTOCOL,
+            j,
+        };
+    }
+    if highest < number {
+        return Judged {
+            answer: answer::PROTOCOL,
+            j,
+        };
+    }
+    octets::copy(&first, out);
+    let last = run_words(cells, i + NUMBER, next, &text[NUMBER..], &mut out[NUMBER..]);
+    Judged {
+        answer: answer::DONE,
+        j: last,
+    }
 }
 
 // How many of n octets come before the next place that is a multiple of eight.
@@ -435,10 +575,10 @@ fn swap_cells(cells: &mut [u32; 256], a: usize, x: u32, b: usize)
 }
 
 // A box of octets as one of words, which is faster: an octet that is stored and soon loaded again waits. Four cells in each turn.
-fn widen(cells: [u8; 256]) -> [u32; 256]
-    ensures { λ r. ⌜ (r ≡ cells) × OctetCells r ⌝ }
+fn widen(cells: [u8; 256], words: &mut [u32; 256])
+    requires { ⌜ OctetCells (now words) ⌝ }
+    ensures { λ _. ⌜ (now (words .exit) ≡ cells) × OctetCells (now (words .exit)) ⌝ }
 {
-    let mut words = [0u32; 256];
     let mut n = 0;
     while n < 256 {
         let mut k = 0;
@@ -448,20 +588,19 @@ fn widen(cells: [u8; 256]) -> [u32; 256]
         }
         n += 4;
     }
-    words
 }
 
 // A box of words as one of octets, four cells in each turn.
-fn narrow(words: [u32; 256]) -> [u8; 256]
-    requires { ⌜ OctetCells words ⌝ }
-    ensures { λ r. ⌜ r ≡ words ⌝ }
+fn narrow(words: &[u32; 256]) -> [u8; 256]
+    requires { ⌜ OctetCells (now words) ⌝ }
+    ensures { λ r. ⌜ r ≡ now (words .entry) ⌝ }
 {
     let mut cells = [0u8; 256];
     let mut n = 0;
     while n < 256 {
         let mut k = 0;
         while k < 4 {
-            cells[n + k] = low(cell(&words, n + k));
+            cells[n + k] = low(cell(words, n + k));
             k += 1;
         }
         n += 4;

@@ -1,67 +1,76 @@
--- A refusal by each row of the table, and a run over the box of the key.
-use mathlib.Core.Path.{refl}
-use native.Mathlib.Nat.{suc-ne-zero}
-use borrow.Author.Tests.{lt-ltb, le-ltb}
-use Rattle.answer.specs.Laws.{Passed, table, pass, stop, outside-low, outside-high, outside-none, not-size}
-use Rattle.rc4.specs.Answers.{applyRows, applyCode}
-use Rattle.rc4.proofs.Texts.{apply-refused, applied}
+-- A refusal by its number, and a run over the box of the key.
+use native.Mathlib.Omega.{arith}
+use lib.ListN.{length}
+use Rattle.answer.specs.Laws.{not-size}
+use Rattle.rc4.specs.Answers.{runRows}
+use Rattle.rc4.proofs.Texts.{key-fits, text-fits, ready-text, no-key, behind-key, apply-refused, applied}
 use borrow.Author.Needs.{needs}
 use Rattle.rc4.proofs.apply.Statement.{statement}
 use Rattle.rc4.proofs.apply.Tie as tie
 
--- the table behind each row that is passed
-abbrev whole : tie.After-slice-known → Passed
-whole c = let a = c .before .before .before .args in table (applyCode (a .key .now) (a .text .now) (a .out .now)) (applyRows (a .key .now) (a .text .now) (a .out .now)) refl
-
-abbrev keyed : tie.Else2 → Passed
-keyed c = pass (whole (c .before .before)) (outside-none _ _ _ (c .before .if1 .left) (c .if2 .left))
-
-abbrev short : tie.Else3 → Passed
-short c = pass (keyed (c .before)) (le-ltb _ _ (c .if3 .left))
+no-key-requires : tie.Need-no-key-requires
+no-key-requires c κs = search needs
 
 returns : tie.Need-returns
-returns c = apply-refused _ _ _ (stop (whole (c .before)) (outside-low _ _ _ (c .if1 .taken))) not-size
+returns c =
+    let keyless = c .before in
+    let a = keyless .before .before .before .before .args in
+    apply-refused _ _ _ (no-key (a .key .now) (runRows (a .text .now) (a .out .now)) (keyless .no-key .ensures) (c .if1 .taken)) not-size
+
+run-code-requires : tie.Need-run-code-requires
+run-code-requires c κs = search needs
 
 returns-2 : tie.Need-returns-2
-returns-2 c = apply-refused _ _ _ (stop (whole (c .before .before)) (outside-high _ _ _ (c .before .if1 .left) (c .if2 .taken))) not-size
-
-returns-3 : tie.Need-returns-3
-returns-3 c = apply-refused _ _ _ (stop (keyed (c .before)) (lt-ltb _ _ (c .if3 .taken))) not-size
-
-returns-4 : tie.Need-returns-4
-returns-4 c = apply-refused _ _ _ (stop (short (c .before)) (lt-ltb _ _ (c .if4 .taken))) (suc-ne-zero 1)
+returns-2 c =
+    let judged = c .before in
+    let key = judged .before in
+    let keyless = key .before in
+    let a = keyless .before .before .before .before .args in
+    apply-refused _ _ _ (behind-key (a .key .now) (runRows (a .text .now) (a .out .now)) (keyless .no-key .ensures) (key .if1 .left) (judged .run-code .ensures)) (c .if2 .taken)
 
 ascending-requires : tie.Need-ascending-requires
 ascending-requires c κs = search needs
 
 key-schedule-requires : tie.Need-key-schedule-requires
-key-schedule-requires c κs = search needs
+key-schedule-requires c κs =
+    let key = c .before .before .before .before in
+    let a = key .before .before .before .before .before .args in
+    (key-fits (a .key .now) (key .before .no-key .ensures) (key .if1 .left), c .before .ascending .ensures)
 
 run-words-requires : tie.Need-run-words-requires
-run-words-requires c κs = search needs
+run-words-requires c κs =
+    let keyed = c .before .before in
+    let passed = keyed .before .before .before in
+    let judged = passed .before in
+    let a = judged .before .before .before .before .before .before .args in
+    let fits = text-fits (length (a .text .now)) (length (a .out .now)) (judged .run-code .ensures) (passed .if2 .left) in
+    ready-text 0 0 (keyed .key-schedule .ensures .1) (omega arith) (omega arith) (fits .0) (fits .1)
 
 same-length : tie.Need-same-length
 same-length c = search needs
 
-returns-5 : tie.Need-returns-5
-returns-5 c =
+returns-3 : tie.Need-returns-3
+returns-3 c =
     let ran = c .before .before in
-    let made = ran .before .before .before in
-    let fits = made .before .before .before in
-    let short = fits .before in
-    let high = short .before in
-    applied _ _ _ (made .key-schedule .ensures .0) (ran .run-words .ensures) (high .before .if1 .left) (high .if2 .left) (short .if3 .left) (fits .if4 .left)
+    let keyed = ran .before .before .before in
+    let passed = keyed .before .before .before in
+    let judged = passed .before in
+    let key = judged .before in
+    let keyless = key .before in
+    let a = keyless .before .before .before .before .args in
+    let code = behind-key (a .key .now) (runRows (a .text .now) (a .out .now)) (keyless .no-key .ensures) (key .if1 .left) (judged .run-code .ensures) in
+    applied _ _ _ code (passed .if2 .left) (keyed .key-schedule .ensures .0) (ran .run-words .ensures)
 
 pub apply-spec : {M : Type 1} → statement M
 apply-spec =
     tie.close
     (tie.spec
+    no-key-requires
     returns
+    run-code-requires
     returns-2
-    returns-3
-    returns-4
     ascending-requires
     key-schedule-requires
     run-words-requires
     same-length
-    returns-5)
+    returns-3)

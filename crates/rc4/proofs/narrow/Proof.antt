@@ -4,7 +4,7 @@ use Prim.Native.Nat.{_+_, _%_, _-_, _≤_}
 use native.Mathlib.Nat.{add-zero, mod-eq-of-lt}
 use native.Mathlib.Omega.{arith}
 use borrow.Author.Needs.{needs}
-use Rattle.rc4.proofs.Boxes.{Copied, copied-none, copied-more, copied-all}
+use Rattle.rc4.proofs.Boxes.{zero-cells, Copied, copied-none, copied-more, copied-all}
 use Rattle.rc4.proofs.narrow.Statement.{statement}
 use Rattle.rc4.proofs.narrow.Tie as tie
 
@@ -21,7 +21,7 @@ abbrev μ-loop : tie.MeasureT-loop
 μ-loop words cells₀ n₀ cells n = 256 - n
 
 loop-holds : tie.Need-loop-holds Inv-loop2 μ-loop2 Inv-loop μ-loop
-loop-holds c = (copied-none _, omega arith)
+loop-holds c = (copied-none _ _ zero-cells, omega arith)
 
 loop2-holds : tie.Need-loop2-holds Inv-loop2 μ-loop2 Inv-loop μ-loop
 loop2-holds c = (rw add-zero (c .before .loop .inv .0), omega arith)
@@ -50,7 +50,7 @@ loop2-less c = search needs
 loop2-again : tie.Need-loop2-again Inv-loop2 μ-loop2 Inv-loop μ-loop
 loop2-again c =
     let read = c .before in
-    let turn = read .before .before .before in
+    let turn = read .before .before in
     let outer = turn .before .before in
     let l = turn .loop2 in
     let w = read .cell .ensures in

@@ -1,11 +1,12 @@
 -- A run by value is one in place over its cells as words.
+use Rattle.rc4.proofs.Boxes.{zero-cells}
 use Rattle.rc4.proofs.Texts.{whole-text}
 use borrow.Author.Needs.{needs}
 use Rattle.rc4.proofs.run_text.Statement.{statement}
 use Rattle.rc4.proofs.run_text.Tie as tie
 
 widen-requires : tie.Need-widen-requires
-widen-requires c κs = search needs
+widen-requires c κs = zero-cells
 
 index-requires : tie.Need-index-requires
 index-requires c κs = search needs
@@ -34,12 +35,12 @@ same-length c = search needs
 returns : tie.Need-returns
 returns c =
     let narrowed = c .before .before in
-    let ran = narrowed .before .before .before in
+    let ran = narrowed .before .before .before .before in
     let j = ran .before .before in
     let i = j .before .before in
     let widened = i .before in
     let opened = widened .before in
-    let begun = opened .before .before .before in
+    let begun = opened .before .before .before .before in
     let hi = i .index .ensures in
     let hj = j .word .ensures in
     whole-text (begun .args .state) _ _ _ (widened .widen .ensures .0) (hi .0) (hj .0) (ran .run-words .ensures) (narrowed .narrow .ensures) (c .before .octet .ensures) (c .low .ensures) (hi .1) (hj .1)

@@ -10,19 +10,19 @@ use Rattle.rc4.proofs.widen.Statement.{statement}
 use Rattle.rc4.proofs.widen.Tie as tie
 
 abbrev Inv-loop2 : tie.InvT-loop2
-Inv-loop2 cells words₀ n k₀ words k = Copied cells words (n + k) × (k ≤ 4)
+Inv-loop2 words₀ cells n k₀ words k = Copied cells words (n + k) × (k ≤ 4)
 
 abbrev μ-loop2 : tie.MeasureT-loop2
-μ-loop2 cells words₀ n k₀ words k = 4 - k
+μ-loop2 words₀ cells n k₀ words k = 4 - k
 
 abbrev Inv-loop : tie.InvT-loop
-Inv-loop cells words₀ n₀ words n = Copied cells words n × (n % 4 ≡ 0)
+Inv-loop words₀ cells n₀ words n = Copied cells words n × (n % 4 ≡ 0)
 
 abbrev μ-loop : tie.MeasureT-loop
-μ-loop cells words₀ n₀ words n = 256 - n
+μ-loop words₀ cells n₀ words n = 256 - n
 
 loop-holds : tie.Need-loop-holds Inv-loop2 μ-loop2 Inv-loop μ-loop
-loop-holds c = (copied-none _, omega arith)
+loop-holds c = (copied-none _ _ (c .pre), omega arith)
 
 loop2-holds : tie.Need-loop2-holds Inv-loop2 μ-loop2 Inv-loop μ-loop
 loop2-holds c = (rw add-zero (c .before .loop .inv .0), omega arith)
@@ -42,8 +42,8 @@ add-words c = search needs
 mul-words : tie.Need-mul-words Inv-loop2 μ-loop2 Inv-loop μ-loop
 mul-words c = search needs
 
-array-write-words : tie.Need-array-write-words Inv-loop2 μ-loop2 Inv-loop μ-loop
-array-write-words c = search needs
+element-write-words : tie.Need-element-write-words Inv-loop2 μ-loop2 Inv-loop μ-loop
+element-write-words c = search needs
 
 add-k : tie.Need-add-k Inv-loop2 μ-loop2 Inv-loop μ-loop
 add-k c = search needs
@@ -94,7 +94,7 @@ widen-spec =
     word-requires
     add-words
     mul-words
-    array-write-words
+    element-write-words
     add-k
     loop2-less
     loop2-again

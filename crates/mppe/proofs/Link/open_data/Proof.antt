@@ -1,7 +1,7 @@
 use borrow.Author.Needs.{needs}
 use native.Mathlib.Omega.{arith}
 use Rattle.mppe.specs.Link.{farthest}
-use Rattle.mppe.proofs.Laws.{count-bound, data-waits, data-refused, data-off, data-opened}
+use Rattle.mppe.proofs.Laws.{count-bound, data-waits, data-refused, data-passed, data-off, data-opened}
 use Rattle.mppe.proofs.Link.open_data.Statement.{statement}
 use Rattle.mppe.proofs.Link.open_data.Tie as tie
 
@@ -53,21 +53,25 @@ lacks-a-requires c κs = search needs
 either-requires : tie.Need-either-requires
 either-requires c κs = search needs
 
-cipher-of-requires : tie.Need-cipher-of-requires
-cipher-of-requires c κs = search needs
-
-runs-off-protocol-requires : tie.Need-runs-off-protocol-requires
-runs-off-protocol-requires c κs = let moved = c .before .before .before in
-    let judged = moved .before .before .before .before in
-    judged .before .before .before .before .pre .1
+decipher-requires : tie.Need-decipher-requires
+decipher-requires c κs = let moved = c .before .before .before in
+    let passed = moved .before in
+    let judged = passed .before .before .before in
+    let away = judged .before in
+    let s = away .before .before .before in
+    (s .pre .1, s .pre .2,
+    data-passed farthest _ (s .args .self) (s .args .header) (s .args .text .now) _ (judged .header-code .ensures) (passed .if2 .left) (away .distance .ensures) .0)
 
 refused-requires-2 : tie.Need-refused-requires-2
 refused-requires-2 c κs = search needs
 
+same-length : tie.Need-same-length
+same-length c = search needs
+
 returns-3 : tie.Need-returns-3
-returns-3 c = let off = c .before .before in
-    let keyed = off .before in
-    let fresh = keyed .before in
+returns-3 c = let off = c .before in
+    let ran = off .before .before .before .before in
+    let fresh = ran .before .before in
     let moved = fresh .before .before in
     let passed = moved .before in
     let made = passed .before .before in
@@ -75,24 +79,19 @@ returns-3 c = let off = c .before .before in
     let away = judged .before in
     let s = away .before .before .before in
     data-off farthest (s .args .self) (s .args .header) (s .args .text .now) (s .args .out .now) (moved .moved2 .ensures .1) (judged .header-code .ensures) (passed .if2 .left)
-    (away .distance .ensures, made .changes-over .ensures, moved .moved2 .ensures .0) (fresh .before .lacks-a .ensures, fresh .either .ensures, keyed .cipher-of .ensures)
-    (off .runs-off-protocol .ensures) (c .before .if3 .taken) (c .refused2 .ensures)
-
-run-requires : tie.Need-run-requires
-run-requires c κs = search needs
+    (away .distance .ensures, made .changes-over .ensures, moved .moved2 .ensures .0) (fresh .before .lacks-a .ensures, fresh .either .ensures)
+    (ran .decipher .ensures) (off .if3 .taken) (c .refused2 .ensures)
 
 settled-requires : tie.Need-settled-requires
 settled-requires c κs = search needs
 
-same-length : tie.Need-same-length
-same-length c = search needs
+same-length-2 : tie.Need-same-length-2
+same-length-2 c = search needs
 
 returns-4 : tie.Need-returns-4
-returns-4 c = let ran = c .before .before .before .before in
-    let carried = ran .before .before in
-    let off = carried .before in
-    let keyed = off .before in
-    let fresh = keyed .before in
+returns-4 c = let carried = c .before .before in
+    let ran = carried .before .before .before .before in
+    let fresh = ran .before .before in
     let moved = fresh .before .before in
     let passed = moved .before in
     let made = passed .before .before in
@@ -100,8 +99,8 @@ returns-4 c = let ran = c .before .before .before .before in
     let away = judged .before in
     let s = away .before .before .before in
     data-opened farthest (s .args .self) (s .args .header) (s .args .text .now) (s .args .out .now) (moved .moved2 .ensures .1) (judged .header-code .ensures) (passed .if2 .left)
-    (away .distance .ensures, made .changes-over .ensures, moved .moved2 .ensures .0) (fresh .before .lacks-a .ensures, fresh .either .ensures, keyed .cipher-of .ensures)
-    (off .runs-off-protocol .ensures) (carried .if3 .left) (ran .run .ensures) (s .pre .2) (c .settled .ensures)
+    (away .distance .ensures, made .changes-over .ensures, moved .moved2 .ensures .0) (fresh .before .lacks-a .ensures, fresh .either .ensures)
+    (ran .decipher .ensures) (carried .if3 .left) (c .settled .ensures)
 
 pub open-data-spec : {M : Type 1} → statement M
 open-data-spec =
@@ -118,11 +117,10 @@ open-data-spec =
     moved-requires-2
     lacks-a-requires
     either-requires
-    cipher-of-requires
-    runs-off-protocol-requires
+    decipher-requires
     refused-requires-2
-    returns-3
-    run-requires
-    settled-requires
     same-length
+    returns-3
+    settled-requires
+    same-length-2
     returns-4)

@@ -1,11 +1,12 @@
 -- A draw by value is a draw in place over its cells as words.
+use Rattle.rc4.proofs.Boxes.{zero-cells}
 use Rattle.rc4.proofs.Draws.{step-octets, draw-answers}
 use borrow.Author.Needs.{needs}
 use Rattle.rc4.proofs.Rc4.draw.Statement.{statement}
 use Rattle.rc4.proofs.Rc4.draw.Tie as tie
 
 widen-requires : tie.Need-widen-requires
-widen-requires c κs = search needs
+widen-requires c κs = zero-cells
 
 index-requires : tie.Need-index-requires
 index-requires c κs = search needs
@@ -21,8 +22,9 @@ advance-requires c κs = search needs
 
 narrow-requires : tie.Need-narrow-requires
 narrow-requires c κs =
-    let ahead = c .before .before .before in
-    step-octets _ (c .advance .ensures .1) (ahead .before .before .before .widen .ensures .1)
+    let d = c .before in
+    let ahead = d .before .before .before in
+    step-octets _ (d .advance .ensures .1) (ahead .before .before .before .widen .ensures .1)
 
 add-octet : tie.Need-add-octet
 add-octet c = search needs
@@ -36,7 +38,7 @@ low-requires c κs = search needs
 returns : tie.Need-returns
 returns c =
     let narrowed = c .before .before in
-    let d = narrowed .before in
+    let d = narrowed .before .before in
     let a = d .advance .ensures in
     let ahead = d .before .before .before in
     let at = ahead .before .before in

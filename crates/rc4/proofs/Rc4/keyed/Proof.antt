@@ -18,12 +18,12 @@ key-schedule-requires : tie.Need-key-schedule-requires
 key-schedule-requires c κs = search needs
 
 narrow-requires : tie.Need-narrow-requires
-narrow-requires c κs = c .key-schedule .ensures .1
+narrow-requires c κs = c .before .key-schedule .ensures .1
 
 returns : tie.Need-returns
 unfolding keySchedule
 returns c =
-    let made = c .before in
+    let made = c .before .before in
     let high = made .before .before .before in
     ap (λ (cells : List ℕ). record { answer = 0; state = box cells 0 0 }) (c .narrow .ensures ∙ made .key-schedule .ensures .0)
     ∙ sym (keyed-done _ (high .before .if1 .taken) (leb-true _ _ (high .if2 .taken)))

@@ -1,31 +1,37 @@
--- A text that is too long, a buffer with no room, and a run.
+-- A refusal by its number, and a run.
 use mathlib.Core.Path.{ap, sym, _∙_}
+use lib.ListN.{length}
 use borrow.Author.Needs.{needs}
 use Rattle.rc4.specs.declared.Rc4.{Rc4}
 use Rattle.rc4.specs.Laws.{run-done}
-use Rattle.rc4.proofs.Texts.{too-long, no-room}
+use Rattle.rc4.proofs.Texts.{text-fits, run-refused}
 use Rattle.rc4.proofs.Rc4.run.Statement.{statement}
 use Rattle.rc4.proofs.Rc4.run.Tie as tie
 
-returns : tie.Need-returns
-returns c = too-long _ _ _ (c .if1 .taken)
+run-code-requires : tie.Need-run-code-requires
+run-code-requires c κs = search needs
 
-returns-2 : tie.Need-returns-2
-returns-2 c = no-room _ _ _ (c .before .if1 .left) (c .if2 .taken)
+returns : tie.Need-returns
+returns c = run-refused _ _ _ (c .before .run-code .ensures) (c .if1 .taken)
 
 run-text-requires : tie.Need-run-text-requires
-run-text-requires c κs = search needs
+run-text-requires c κs =
+    let passed = c .before in
+    let a = passed .before .before .before .before .args in
+    text-fits (length (a .text .now)) (length (a .out .now)) (passed .before .run-code .ensures) (passed .if1 .left)
 
 same-length : tie.Need-same-length
 same-length c = search needs
 
-returns-3 : tie.Need-returns-3
-returns-3 c =
+returns-2 : tie.Need-returns-2
+returns-2 c =
     let ran = c .before .before in
-    let fits = ran .before .before in
+    let passed = ran .before .before in
+    let a = passed .before .before .before .before .args in
+    let fits = text-fits (length (a .text .now)) (length (a .out .now)) (passed .before .run-code .ensures) (passed .if1 .left) in
     let r = ran .run-text .ensures in
-    let whole = run-done _ _ _ (fits .before .if1 .left) (fits .if2 .left) in
+    let whole = run-done _ _ _ (fits .0) (fits .1) in
     (ap (λ (s : Rc4). record { answer = 0; state = s }) (r .0) ∙ sym (whole .0), r .1 ∙ sym (whole .1))
 
 pub run-spec : {M : Type 1} → statement M
-run-spec = tie.close (tie.spec returns returns-2 run-text-requires same-length returns-3)
+run-spec = tie.close (tie.spec run-code-requires returns run-text-requires same-length returns-2)

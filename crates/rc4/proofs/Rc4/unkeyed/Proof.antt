@@ -11,10 +11,10 @@ ascending-requires : tie.Need-ascending-requires
 ascending-requires c κs = search needs
 
 narrow-requires : tie.Need-narrow-requires
-narrow-requires c κs = below-cells (c .ascending .ensures)
+narrow-requires c κs = below-cells (c .before .ascending .ensures)
 
 returns : tie.Need-returns
-returns c = ap (λ (cells : List ℕ). box cells 0 0) (c .narrow .ensures ∙ c .before .ascending .ensures)
+returns c = ap (λ (cells : List ℕ). box cells 0 0) (c .narrow .ensures ∙ c .before .before .ascending .ensures)
 
 pub unkeyed-spec : {M : Type 1} → statement M
 unkeyed-spec = tie.close (tie.spec ascending-requires narrow-requires returns)
