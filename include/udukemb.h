@@ -34,10 +34,10 @@
  *       udukemb_check_response          2800
  *       udukemb_new_link                2000
  *       udukemb_nt_response             2800
- *       udukemb_open                    4600
+ *       udukemb_open                    4300
  *       udukemb_option_reply             200
  *       udukemb_reset                   1300
- *       udukemb_seal                    3500
+ *       udukemb_seal                    4600
  *       udukemb_start_key                900
  *       udukemb_write_reset              200
  */

@@ -262,13 +262,20 @@ static int is_unkeyed(const octet state[RC4_STATE])
     return state[256] == 0 && state[257] == 0;
 }
 
+/* That state. */
+static void put_unkeyed(octet state[RC4_STATE])
+{
+    memset(state, 0, RC4_STATE);
+    for (int n = 0; n < 256; n++)
+        state[n] = (octet)n;
+}
+
 /* That state with two of its octets set. */
 static void unkeyed_but(const char *label, int at, octet value, int other, octet second)
 {
-    octet state[RC4_STATE] = {0};
+    octet state[RC4_STATE];
 
-    for (int n = 0; n < 256; n++)
-        state[n] = (octet)n;
+    put_unkeyed(state);
     state[at] = value;
     state[other] = second;
     line(label, is_unkeyed(state), state, sizeof state);
@@ -300,6 +307,37 @@ static void buffered(const char *label, size_t n, size_t room)
     answer = oracle_rc4_run(state, of(counted, n), into(out, room));
     line(label, answer, out, room);
     draw("draws after it", state);
+}
+
+/* A text that is taken only where it begins with a number within bounds, under the key of 128 bits or, keyed afresh, one of so many octets:
+   the whole buffer, and draws after it. */
+static void judged(const char *label, bool fresh, size_t key, unsigned lowest, unsigned highest, size_t n, size_t room)
+{
+    octet out[12], state[RC4_STATE];
+    int answer;
+
+    memset(out, 0xEE, sizeof out);
+    if (fresh)
+        put_unkeyed(state);
+    else
+        keyed(of(counted, 16), state);
+    answer = oracle_rc4_within(state, fresh, of(counted, key), lowest, highest, of(counted, n), into(out, room));
+    line(label, answer, out, room);
+    draw("draws after it", state);
+}
+
+/* Such texts. RFC 6229 prints 9a c7 as the first octets of that key's keystream, so 01 02 comes out as 9b c5. */
+static void numbers(void)
+{
+    judged("number within bounds", false, 0, 0x9BC5, 0x9BC5, 9, 12);
+    judged("number below them", false, 0, 0x9BC6, 0xFFFF, 9, 12);
+    judged("number above them", false, 0, 0x0000, 0x9BC4, 9, 12);
+    judged("within bounds, keyed afresh", true, 16, 0x9BC5, 0x9BC5, 9, 12);
+    judged("above them, keyed afresh", true, 16, 0x0000, 0x9BC4, 9, 12);
+    judged("keyed afresh without a key", true, 0, 0x0000, 0xFFFF, 9, 12);
+    judged("text that is a number", false, 0, 0x0000, 0xFFFF, 2, 12);
+    judged("text too short for one", false, 0, 0x0000, 0xFFFF, 1, 12);
+    judged("number without room", false, 0, 0x0000, 0xFFFF, 13, 12);
 }
 
 /* A text of n octets into a buffer, of which the last sixteen octets are shown. */
@@ -363,6 +401,7 @@ int main(void)
     buffered("buffer one octet too short", 13, 12);
     buffered("empty text", 0, 12);
     buffered("empty text and buffer", 0, 0);
+    numbers();
     lengths();
     parts();
     return 0;

@@ -10,7 +10,7 @@
 
 /* The calls' numbers in crates/cases. */
 enum {
-    MD4, SHA1, SHA256, HMAC_SHA256, DES, RC4_KEYED, RC4_RUN, RC4_DRAW, RC4_APPLY, RC4_TESTS,
+    MD4, SHA1, SHA256, HMAC_SHA256, DES, RC4_KEYED, RC4_RUN, RC4_DRAW, RC4_APPLY, RC4_TESTS, RC4_WITHIN,
     PASSWORD_HASH = 16, HASH_HASH, HASH_CHALLENGE, CHALLENGE_RESPONSE,
     READ_CHALLENGE = 32, READ_RESPONSE, NAME, WRITE_CHALLENGE, WRITE_RESPONSE, READ_OPTION, WRITE_OPTION, ONLY,
     READ_RESET, WRITE_RESET,
@@ -292,7 +292,7 @@ static void make_tested(test *t)
         t->in[0].at[a] = t->in[0].at[b];
 }
 
-/* Whether it is the state without a key, whether its box is a permutation, and its next two octets. */
+/* Whether it is the state without a key, and whether its box is a permutation. */
 static void expect_tested(const test *t, answer *a)
 {
     octet unkeyed[RC4_STATE], state[RC4_STATE];
@@ -301,8 +301,41 @@ static void expect_tested(const test *t, answer *a)
     put_state(t, state);
     *field(a, 1) = memcmp(state, unkeyed, RC4_STATE) == 0;
     *field(a, 1) = (octet)oracle_rc4_permutation(state);
-    *field(a, 1) = oracle_rc4_draw(state);
-    *field(a, 1) = oracle_rc4_draw(state);
+}
+
+/* A number, the one before it or the one behind it. */
+static unsigned near(unsigned number)
+{
+    return (number + (unsigned)below(3) + 65535) % 65536;
+}
+
+/* A whole state, a text, a key to be keyed afresh with, and bounds about the number that comes out; room for the result. */
+static void make_within(test *t)
+{
+    octet state[RC4_STATE];
+    unsigned number = 0;
+
+    make_run(t);
+    put_state(t, state);
+    fill(&t->in[0], RC4_STATE);
+    memcpy(t->in[0].at, state, RC4_STATE);
+    fill(&t->in[2], within(1, LONGEST_RC4_KEY));
+    t->z = one_in(2);
+    if (t->z)
+        oracle_rc4_keyed(in(t, 2), state);
+    for (size_t k = 0; k < 2 && k < t->in[1].n; k++)
+        number = 256 * number + (t->in[1].at[k] ^ oracle_rc4_draw(state));
+    t->x = near(number);
+    t->y = near(number);
+}
+
+/* The state after it, and the buffer. */
+static void expect_within(const test *t, answer *a)
+{
+    octet *state = field(a, RC4_STATE);
+
+    memcpy(state, t->in[0].at, RC4_STATE);
+    a->number = oracle_rc4_within(state, t->z, in(t, 2), t->x, t->y, in(t, 1), lent(a, 0));
 }
 
 /* A password. */
@@ -783,7 +816,8 @@ static const call calls[] = {
     {"Rc4::run", RC4_RUN, make_run, expect_run},
     {"Rc4::draw", RC4_DRAW, make_state, expect_draw},
     {"rc4::apply", RC4_APPLY, make_apply, expect_apply},
-    {"Rc4::is_unkeyed, is_permutation and next_two", RC4_TESTS, make_tested, expect_tested},
+    {"Rc4::is_unkeyed and is_permutation", RC4_TESTS, make_tested, expect_tested},
+    {"Rc4::run_within", RC4_WITHIN, make_within, expect_within},
     {"password_hash", PASSWORD_HASH, make_one_password, expect_password_hash},
     {"hash_hash", HASH_HASH, make_hash, expect_hash_hash},
     {"challenge_hash", HASH_CHALLENGE, make_challenge_hash, expect_challenge_hash},

@@ -214,6 +214,28 @@ int oracle_rc4_run(octet state[RC4_STATE], part text, buffer out)
     return DONE;
 }
 
+/* The same from the box of a key where RC4 is keyed afresh, and only where what comes out begins with a number within bounds. */
+int oracle_rc4_within(octet state[RC4_STATE], bool fresh, part key, unsigned lowest, unsigned highest, part text, buffer out)
+{
+    octet box[RC4_STATE], ahead[RC4_STATE];
+    unsigned number = 0;
+
+    memcpy(box, state, RC4_STATE);
+    if (fresh && oracle_rc4_keyed(key, box) != DONE)
+        return SIZE;
+    if (text.n < 2 || text.n > LONGEST_TEXT)
+        return SIZE;
+    if (out.n < text.n)
+        return ROOM;
+    memcpy(ahead, box, RC4_STATE);
+    for (int k = 0; k < 2; k++)
+        number = 256 * number + (text.at[k] ^ oracle_rc4_draw(ahead));
+    if (number < lowest || number > highest)
+        return PROTOCOL;
+    memcpy(state, box, RC4_STATE);
+    return oracle_rc4_run(state, text, out);
+}
+
 /* MD4 of the password (002, 8.3). */
 int oracle_password_hash(part password, octet out[HASH])
 {

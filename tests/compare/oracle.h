@@ -64,6 +64,7 @@ int oracle_hmac(part key, part text, octet out[32]);
 int oracle_des(part key, part block, octet out[8]);
 int oracle_rc4_keyed(part key, octet state[RC4_STATE]);
 int oracle_rc4_run(octet state[RC4_STATE], part text, buffer out);
+int oracle_rc4_within(octet state[RC4_STATE], bool fresh, part key, unsigned lowest, unsigned highest, part text, buffer out);
 octet oracle_rc4_draw(octet state[RC4_STATE]);
 int oracle_rc4_permutation(const octet state[RC4_STATE]);
 

@@ -104,7 +104,7 @@ fn with_lent(head: [u8; 19], a: &[u8], b: &[u8], c: &[u8]) {
 fn call(n: Numbers, a: &[u8], b: &[u8], c: &[u8], lent: &mut [u8]) {
     let group = n.call / 16;
     match group {
-        0 => texts::call(n, a, b, lent),
+        0 => texts::call(n, a, b, c, lent),
         1 => logins::call(n, a, b, c),
         2 => packets::call(n, a, b, c, lent),
         3 => keys::call(n, a, b),

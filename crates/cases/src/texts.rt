@@ -4,8 +4,8 @@ use crate::low;
 use crate::tell;
 use rc4::Rc4;
 
-// The calls 0 to 9.
-pub fn call(n: Numbers, a: &[u8], b: &[u8], lent: &mut [u8]) {
+// The calls 0 to 10.
+pub fn call(n: Numbers, a: &[u8], b: &[u8], c: &[u8], lent: &mut [u8]) {
     let call = n.call;
     match call {
         0 => tell_md4(a),
@@ -18,6 +18,7 @@ pub fn call(n: Numbers, a: &[u8], b: &[u8], lent: &mut [u8]) {
         7 => tell_draw(state(n, a)),
         8 => tell_applied(a, b, lent),
         9 => tell_tests(state(n, a)),
+        10 => tell_within(n, a, b, c, lent),
         _ => {}
     }
 }
@@ -88,13 +89,36 @@ fn tell_applied(key: &[u8], text: &[u8], lent: &mut [u8]) {
     tell(answer, &[], lent);
 }
 
-// Whether a state is the one without a key, whether its box is a permutation, and its next two octets, which have no number.
+// Whether a state is the one without a key, and whether its box is a permutation, which have no number.
 fn tell_tests(s: Rc4) {
     let unkeyed = s.is_unkeyed();
     let permutation = s.is_permutation();
-    let next = s.next_two();
-    let fields = [unkeyed as u8, permutation as u8, next[0], next[1]];
+    let fields = [unkeyed as u8, permutation as u8];
     tell(0, &fields, &[]);
+}
+
+// An RC4 run within bounds, from a state that is the first input, or from the third as a key: the state after it, and the lent buffer.
+fn tell_within(n: Numbers, a: &[u8], b: &[u8], c: &[u8], lent: &mut [u8]) {
+    let s = whole_state(a);
+    let lowest = (n.x % 65536) as u16;
+    let highest = (n.y % 65536) as u16;
+    let ran = s.run_within(n.z == 1, c, lowest, highest, b, lent);
+    let state = ran.state;
+    let fields = state_fields(state);
+    tell(ran.answer, &fields, lent);
+}
+
+// A state of its box and both indices, with zeros behind a short one.
+fn whole_state(a: &[u8]) -> Rc4 {
+    let mut octets = [0u8; 258];
+    octets::copy(a, &mut octets);
+    let mut cells = [0u8; 256];
+    octets::copy(&octets[0..256], &mut cells);
+    Rc4 {
+        cells,
+        i: octets[256],
+        j: octets[257],
+    }
 }
 
 // The state of a case: its first input as the box, with zeros behind a short one, and two numbers as the indices.

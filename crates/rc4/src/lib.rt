@@ -10,7 +10,6 @@ ghost use Rattle.octets.specs.Octets.{written, longestText};
 ghost use Rattle.rc4.specs.Cipher.{below, permutation, unkeyed, inOrder, isUnkeyed, swap, rounds, step, drawn, run, after};
 ghost use Rattle.rc4.specs.Answers.{keyedAnswer, drawAnswer, runAnswer, runOut, applyCode, applyOut, shortestKey, longestKey, number, numberCode, textRows, numberedRows, keyedIf, withinAnswer, withinOut};
 ghost use Rattle.rc4.specs.Inner.{wrapped, firstCell, xors, OctetCells, Ready, Finished, Marked, Tells};
-
 use octets::pair;
 
 // The shortest key (01, "Lengths").

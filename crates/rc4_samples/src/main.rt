@@ -95,6 +95,7 @@ fn main() {
     permutations();
     unkeyed();
     buffers();
+    numbers();
     lengths();
     parts();
     twice(&mut [0u8; 32], &mut [0u8; 32]);
@@ -358,6 +359,85 @@ fn shown(label: &[u8], s: Rc4, text: &[u8], out: &mut [u8]) -> Rc4 {
     let r = s.run(text, out);
     report::line(label, r.answer, out);
     r.state
+}
+
+// Texts that are taken only where they begin with a number within bounds; 0x9BC5 comes out under the key of 128 bits.
+fn numbers() {
+    judged(b"number within bounds", false, 0, 0x9BC5, 0x9BC5, 9, 12);
+    judged(b"number below them", false, 0, 0x9BC6, 0xFFFF, 9, 12);
+    judged(b"number above them", false, 0, 0x0000, 0x9BC4, 9, 12);
+    judged(
+        b"within bounds, keyed afresh",
+        true,
+        16,
+        0x9BC5,
+        0x9BC5,
+        9,
+        12,
+    );
+    judged(b"above them, keyed afresh", true, 16, 0x0000, 0x9BC4, 9, 12);
+    judged(
+        b"keyed afresh without a key",
+        true,
+        0,
+        0x0000,
+        0xFFFF,
+        9,
+        12,
+    );
+    judged(b"text that is a number", false, 0, 0x0000, 0xFFFF, 2, 12);
+    judged(b"text too short for one", false, 0, 0x0000, 0xFFFF, 1, 12);
+    judged(b"number without room", false, 0, 0x0000, 0xFFFF, 13, 12);
+}
+
+// Judges a text of n octets by bounds, under the key of 128 bits or one of so many octets: the whole buffer after it, and draws from the state.
+fn judged(
+    label: &[u8],
+    fresh: bool,
+    octets: usize,
+    lowest: u16,
+    highest: u16,
+    n: usize,
+    room: usize,
+)
+    requires { ⌜ (octets ≤ 32) × (n ≤ 32) × (room ≤ 32) ⌝ }
+{
+    let mut out = [0xEEu8; 32];
+    show_judged(
+        label,
+        held(fresh),
+        fresh,
+        &COUNTED[0..octets],
+        lowest,
+        highest,
+        &COUNTED[0..n],
+        &mut out[0..room],
+    );
+}
+
+// The state of the key of 128 bits, or none where RC4 is keyed afresh.
+fn held(fresh: bool) -> Rc4 {
+    if fresh {
+        return Rc4::unkeyed();
+    }
+    let k = Rc4::keyed(&COUNTED[..16]);
+    k.state
+}
+
+// Prints what is made of it.
+fn show_judged(
+    label: &[u8],
+    s: Rc4,
+    fresh: bool,
+    key: &[u8],
+    lowest: u16,
+    highest: u16,
+    text: &[u8],
+    out: &mut [u8],
+) {
+    let r = s.run_within(fresh, key, lowest, highest, text, out);
+    report::line(label, r.answer, out);
+    show_draws(b"draws after it", Form::ByValue, r.state);
 }
 
 // Texts at and beyond the limit of their length.

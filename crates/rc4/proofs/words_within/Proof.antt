@@ -36,9 +36,11 @@ returns c =
     let read = c .before in
     let ran = read .before .before in
     let begun = ran .before .before .before .before .before .before in
-    let a = begun .args in
-    (number-low (wrapped (a .cells .now) (a .i) (a .j)) (a .text .now) _ _ (ran .run-ones .ensures .wrote) (read .pair .ensures) (begun .pre .1) (c .if1 .taken),
-    λ z. absurd (suc-ne-zero 3 z), λ h. refl)
+    let a = begun .args in (
+      number-low (wrapped (a .cells .now) (a .i) (a .j)) (a .text .now) _ _ (ran .run-ones .ensures .wrote) (read .pair .ensures) (begun .pre .1) (c .if1 .taken),
+      λ z. absurd (suc-ne-zero 3 z),
+      λ h. refl,
+    )
 
 returns-2 : tie.Need-returns-2
 returns-2 c =
@@ -46,9 +48,11 @@ returns-2 c =
     let read = low .before in
     let ran = read .before .before in
     let begun = ran .before .before .before .before .before .before in
-    let a = begun .args in
-    (number-high (wrapped (a .cells .now) (a .i) (a .j)) (a .text .now) _ _ (ran .run-ones .ensures .wrote) (read .pair .ensures) (begun .pre .1) (low .if1 .left) (c .if2 .taken),
-    λ z. absurd (suc-ne-zero 3 z), λ h. refl)
+    let a = begun .args in (
+      number-high (wrapped (a .cells .now) (a .i) (a .j)) (a .text .now) _ _ (ran .run-ones .ensures .wrote) (read .pair .ensures) (begun .pre .1) (low .if1 .left) (c .if2 .taken),
+      λ z. absurd (suc-ne-zero 3 z),
+      λ h. refl,
+    )
 
 slice-aggregate-copy : tie.Need-slice-aggregate-copy
 slice-aggregate-copy c = search needs
@@ -104,9 +108,11 @@ returns-3 c =
     let ran = read .before .before in
     let begun = ran .before .before .before .before .before .before in
     let a = begun .args in
-    let first = lent-two (a .text .now) (a .out .now) (ran .run-ones .ensures) (copied .copy .ensures) (begun .pre .1) (begun .pre .0 .room) in
-    (number-within (wrapped (a .cells .now) (a .i) (a .j)) (a .text .now) _ _ (ran .run-ones .ensures .wrote) (read .pair .ensures) (begun .pre .1) (judged .before .if1 .left) (judged .if2 .left),
-    λ z. finished-parts 2 first (whole .run-words .ensures) (begun .pre .1), λ h. absurd (h refl))
+    let first = lent-two (a .text .now) (a .out .now) (ran .run-ones .ensures) (copied .copy .ensures) (begun .pre .1) (begun .pre .0 .room) in (
+      number-within (wrapped (a .cells .now) (a .i) (a .j)) (a .text .now) _ _ (ran .run-ones .ensures .wrote) (read .pair .ensures) (begun .pre .1) (judged .before .if1 .left) (judged .if2 .left),
+      λ z. finished-parts 2 first (whole .run-words .ensures) (begun .pre .1),
+      λ h. absurd (h refl),
+    )
 
 pub words-within-spec : {M : Type 1} → statement M
 words-within-spec =

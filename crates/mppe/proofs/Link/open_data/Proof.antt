@@ -58,9 +58,11 @@ decipher-requires c κs = let moved = c .before .before .before in
     let passed = moved .before in
     let judged = passed .before .before .before in
     let away = judged .before in
-    let s = away .before .before .before in
-    (s .pre .1, s .pre .2,
-    data-passed farthest _ (s .args .self) (s .args .header) (s .args .text .now) _ (judged .header-code .ensures) (passed .if2 .left) (away .distance .ensures) .0)
+    let s = away .before .before .before in (
+      s .pre .1,
+      s .pre .2,
+      data-passed farthest _ (s .args .self) (s .args .header) (s .args .text .now) _ (judged .header-code .ensures) (passed .if2 .left) (away .distance .ensures) .0,
+    )
 
 refused-requires-2 : tie.Need-refused-requires-2
 refused-requires-2 c κs = search needs

@@ -22,9 +22,10 @@ ascending-requires c κs = search needs
 key-words-requires : tie.Need-key-words-requires
 key-words-requires c κs = let passed = c .before .before in
     let judged = passed .before in
-    let a = judged .before .before .before .before .args in
-    (c .before .ascending .ensures,
-    numbered-fits (a .fresh) (a .key .now) (length (a .text .now)) (length (a .out .now)) (judged .within-code .ensures) (passed .if1 .left) .0)
+    let a = judged .before .before .before .before .args in (
+      c .before .ascending .ensures,
+      numbered-fits (a .fresh) (a .key .now) (length (a .text .now)) (length (a .out .now)) (judged .within-code .ensures) (passed .if1 .left) .0,
+    )
 
 start-requires : tie.Need-start-requires
 start-requires c κs = search needs
