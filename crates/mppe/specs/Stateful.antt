@@ -27,7 +27,7 @@ use Rattle.mppe.specs.Link.{longestPlain, counts, newCount, farthest, bo
 use Rattle.mppe.specs.Laws.{key-back, well, front-none, headerOf, sealed-header, header-count, header-A, header-D, distance-is, endings-are}
 use Rattle.mppe.specs.Run.{mostLost, SealCall, OpenCall, arrival, other, saidCode, openRun}
 use Rattle.mppe.specs.Demand3.{Sealable, open-other}
-use Rattle.mppe.specs.StatefulRun.{SendCall, seal, reset, History, Packet, first, beginning, heldBy, ends, nextSession, freshly, boxUsed, sealedOn, packetOf, asked, numbered, sendRun, onward, packets, saidOf, said, opened, made, dueOf, Meets, due, StatefulRun}
+use Rattle.mppe.specs.StatefulRun.{SendCall, seal, reset, History, Packet, first, beginning, heldBy, ends, nextSession, freshly, boxUsed, sealedOn, packetOf, asked, numbered, sendRun, onward, packets, saidOf, said, opened, dueOf, Meets, due, StatefulRun}
 
 -- a box that is a permutation
 abbrev Box : Rc4 → Type 0

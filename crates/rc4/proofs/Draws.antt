@@ -1,5 +1,5 @@
 -- A draw over a box in place, whose indices are not wrapped, is the draw of the definitions.
-use mathlib.Core.Path.{_≡_, refl, sym, _∙_}
+use mathlib.Core.Path.{_≡_, refl, _∙_}
 use mathlib.Core.List.{List, [], _∷_}
 use Prim.Native.Nat.{ℕ, zero, suc, _+_, _%_, _<_}
 use native.Mathlib.Nat.{mod-eq-of-lt}
@@ -68,9 +68,3 @@ pub draw-answers : (s : Rc4) {words words′ c : List ℕ} (i j d : ℕ) {o i′
     → wrapped words′ (i + 1) d ≡ step (wrapped words i j) → c ≡ words′ → i′ ≡ (i + 1) % 256 → j′ ≡ d % 256 → i < 256 → j < 256
     → _≡_ {A = Drawn} (record { octet = o; state = box c i′ j′ }) (drawAnswer s)
 draw-answers s i j d ec ei ej eo es ec′ ei′ ej′ hi hj = rw (eo, ec′, ei′, ej′, es, unwrapped s i j ec ei ej hi hj)
-
--- two octets, one draw after the other
-pub two-drawn : (s : Rc4) {words words′ : List ℕ} (i j d : ℕ) {a b : ℕ} → words ≡ s .cells → i ≡ s .i → j ≡ s .j → a ≡ drawn (wrapped words i j)
-    → wrapped words′ (i + 1) d ≡ step (wrapped words i j) → b ≡ drawn (wrapped words′ (i + 1) d) → i < 256 → j < 256
-    → a ∷ b ∷ [] ≡ drawn s ∷ drawn (step s) ∷ []
-two-drawn s i j d ec ei ej ea es eb hi hj = rw (ea, eb, es, unwrapped s i j ec ei ej hi hj)

@@ -1,4 +1,3 @@
-use borrow.Author.Needs.{needs}
 use Rattle.rc4.specs.Cipher.{keySchedule}
 use Rattle.rc4.specs.Answers.{keyedIf}
 use Rattle.rc4.proofs.Keys.{below-cells}
