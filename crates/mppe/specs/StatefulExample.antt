@@ -3,7 +3,7 @@
 use mathlib.Core.Path.{_≡_, refl, ap, _∙_}
 use mathlib.Core.Bool.{Bool, true, false, _&&_, _||_}
 use mathlib.Core.List.{List, [], _∷_, map}
-use Prim.Native.Nat.{ℕ, zero, suc, _+_, _%_, _<_, _≤_}
+use Prim.Native.Nat.{ℕ, zero, suc, _+_, _-_, _%_, _<_, _≤_}
 use native.Mathlib.Nat.{add-zero, suc-ne-zero}
 use native.Mathlib.Omega.{arith}
 use lib.Dec.{eqb, lit≤}
@@ -72,11 +72,11 @@ module _ (s : Strength) (start : List ℕ) where
 
   -- packets 0, 1 and 3 arrive, then 4, the first with A behind the Reset-Request, and 5; 255, which has A, is lost, so 256 waits again; then
   -- each of those that have A anew, and the one behind the last, whose count is 0 again
+  abbrev arrives : List Packet → ℕ → OpenCall
+  arrives ps q = arrival q (numbered s start ps q .octets) (replicate 2 0)
+
   abbrev pub opens : List Packet → List OpenCall
-  opens ps = arrives 0 ∷ arrives 1 ∷ arrives 3 ∷ arrives 4 ∷ arrives 5 ∷ arrives 256 ∷ arrives 511 ∷ arrives 2303 ∷ arrives 4095 ∷ arrives 4096 ∷ []
-    where
-      arrives : ℕ → OpenCall
-      arrives q = arrival q (numbered s start ps q .octets) (replicate 2 0)
+  opens ps = map (arrives ps) (0 ∷ 1 ∷ 3 ∷ 4 ∷ 5 ∷ 256 ∷ 511 ∷ 2303 ∷ 4095 ∷ 4096 ∷ [])
 
   -- which of them have A
   behind-fresh : (n i : ℕ) → i < n → numbered s start (sealed n) (suc (suc (suc (suc i)))) .fresh ≡ (eqb ((4 + i) % 256) 255 || (eqb i 0 && true))
@@ -101,74 +101,32 @@ module _ (s : Strength) (start : List ℕ) where
   unfolding packets onward saidCode numbered packetOf asked sealedOn
   front-plain n = (lit≤ tt, lit≤ tt, lit≤ tt)
 
-  pub meets : (n : ℕ) → 4092 < n → Meets longestPlain farthest s start (sealed n) mostLost 0 false (first s start) (opens (sealed n))
+  -- one arrival, and none, that meet the schedule
+  comes : (n next q : ℕ) (was : Bool) (held : Link) (cs : List OpenCall) → q < 4 + n → next ≤ q → q - next ≤ mostLost
+      → length (numbered s start (sealed n) q .plain) ≤ 2
+      → Meets longestPlain farthest s start (sealed n) mostLost (suc q) (opened longestPlain farthest s start (sealed n) next was q)
+      (dueOf longestPlain farthest s start (sealed n) next was held q (replicate 2 0) .outcome .link) cs
+      → Meets longestPlain farthest s start (sealed n) mostLost next was held (arrives (sealed n) q ∷ cs)
   unfolding Meets
+  comes n next q was held cs there ahead near plain rest = (omega (arith, sealed-length n), ahead, near, refl, plain, rest)
+
+  no-more : (n next : ℕ) (was : Bool) (held : Link) → Meets longestPlain farthest s start (sealed n) mostLost next was held []
+  unfolding Meets
+  no-more n next was held = tt
+
+  pub meets : (n : ℕ) → 4092 < n → Meets longestPlain farthest s start (sealed n) mostLost 0 false (first s start) (opens (sealed n))
   meets n h =
-      let long = sealed-length n in
-      let (p0, p1, p3) = front-plain n in (
-        omega (arith, long),
-        lit≤ tt,
-        lit≤ tt,
-        refl,
-        p0,
-        (
-          omega (arith, long),
-          lit≤ tt,
-          lit≤ tt,
-          refl,
-          p1,
-          (
-            omega (arith, long),
-            lit≤ tt,
-            lit≤ tt,
-            refl,
-            p3,
-            (
-              omega (arith, long),
-              lit≤ tt,
-              lit≤ tt,
-              refl,
-              behind-plain n 0 (omega arith),
-              (
-                omega (arith, long),
-                lit≤ tt,
-                lit≤ tt,
-                refl,
-                behind-plain n 1 (omega arith),
-                (
-                  omega (arith, long),
-                  lit≤ tt,
-                  lit≤ tt,
-                  refl,
-                  behind-plain n 252 (omega arith),
-                  (
-                    omega (arith, long),
-                    lit≤ tt,
-                    lit≤ tt,
-                    refl,
-                    behind-plain n 507 (omega arith),
-                    (
-                      omega (arith, long),
-                      lit≤ tt,
-                      lit≤ tt,
-                      refl,
-                      behind-plain n 2299 (omega arith),
-                      (
-                        omega (arith, long),
-                        lit≤ tt,
-                        lit≤ tt,
-                        refl,
-                        behind-plain n 4091 (omega arith),
-                        (omega (arith, long), lit≤ tt, lit≤ tt, refl, behind-plain n 4092 h, tt),
-                      ),
-                    ),
-                  ),
-                ),
-              ),
-            ),
-          ),
-        ),
-      )
+      let (p0, p1, p3) = front-plain n in
+      comes n 0 0 _ _ _ (omega arith) (lit≤ tt) (lit≤ tt) p0
+      (comes n 1 1 _ _ _ (omega arith) (lit≤ tt) (lit≤ tt) p1
+      (comes n 2 3 _ _ _ (omega arith) (lit≤ tt) (lit≤ tt) p3
+      (comes n 4 4 _ _ _ (omega arith) (lit≤ tt) (lit≤ tt) (behind-plain n 0 (omega arith))
+      (comes n 5 5 _ _ _ (omega arith) (lit≤ tt) (lit≤ tt) (behind-plain n 1 (omega arith))
+      (comes n 6 256 _ _ _ (omega arith) (lit≤ tt) (lit≤ tt) (behind-plain n 252 (omega arith))
+      (comes n 257 511 _ _ _ (omega arith) (lit≤ tt) (lit≤ tt) (behind-plain n 507 (omega arith))
+      (comes n 512 2303 _ _ _ (omega arith) (lit≤ tt) (lit≤ tt) (behind-plain n 2299 (omega arith))
+      (comes n 2304 4095 _ _ _ (omega arith) (lit≤ tt) (lit≤ tt) (behind-plain n 4091 (omega arith))
+      (comes n 4096 4096 _ _ _ (omega arith) (lit≤ tt) (lit≤ tt) (behind-plain n 4092 h) (no-more n 4097 _ _))))))))))
 
   -- the numbers that are answered
   abbrev answered : Result → ℕ
