@@ -8,7 +8,7 @@ use borrow.Author.Tests.{ltb-false}
 use lib.ListN.{length, getD, take, drop, length-append, length-drop, take-append-drop, drop-of-length-le}
 use lib.Seq.{take-all, take-at, drop-at, drop-drop, length-take-le}
 use Rattle.answer.specs.Answer.{done, room, size, protocol, pick, outside, firstOf}
-use Rattle.answer.specs.Laws.{clear, rows-pass, rows-stop, not-done, outside-low, outside-high, outside-none, within}
+use Rattle.answer.specs.Laws.{clear, rows-pass, rows-stop, not-done, within}
 use Rattle.octets.specs.Octets.{fromBigEndian, pairAt, written, longestText}
 use Rattle.rc4.specs.declared.Rc4.{Rc4}
 use Rattle.rc4.specs.declared.Ran.{Ran}
@@ -191,14 +191,11 @@ pair-two s (x ∷ y ∷ text) e en h = en ∙ rw e
 
 module _ (s : Rc4) (text : List ℕ) (lowest highest : ℕ) {n : ℕ} {two : List ℕ} (e : two ≡ written (run s (take 2 text)) (0 ∷ 0 ∷ []))
     (en : n ≡ fromBigEndian (getD two 0 0 ∷ getD two 1 0 ∷ [])) (long : 2 ≤ length text) where
-  pub number-low : n < lowest → protocol ≡ numberCode lowest highest (run s text)
-  number-low h = rw (← pair-two s text e en long, outside-low lowest highest n h)
+  pub number-off : {t : Bool} → t ≡ outside lowest highest n → t ≡ true → protocol ≡ numberCode lowest highest (run s text)
+  number-off et z = rw (← pair-two s text e en long, ← et, z)
 
-  pub number-high : lowest ≤ n → highest < n → protocol ≡ numberCode lowest highest (run s text)
-  number-high h over = rw (← pair-two s text e en long, outside-high lowest highest n h over)
-
-  pub number-within : lowest ≤ n → n ≤ highest → done ≡ numberCode lowest highest (run s text)
-  number-within h under = rw (← pair-two s text e en long, outside-none lowest highest n h under)
+  pub number-within : {t : Bool} → t ≡ outside lowest highest n → t ≡ false → done ≡ numberCode lowest highest (run s text)
+  number-within et z = rw (← pair-two s text e en long, ← et, z)
 
 -- .. and from there into the buffer lent
 pub ready-two : {c text out : List ℕ} {i j : ℕ} → Ready c i j text out → 2 ≤ length text → Ready c i j (take 2 text) (0 ∷ 0 ∷ [])

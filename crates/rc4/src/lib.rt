@@ -132,7 +132,7 @@ impl Rc4 {
             };
         }
         let mut words = ascending();
-        key_words(self, fresh, key, &mut words);
+        keyed_words(self, fresh, key, &mut words);
         let i = index(start(fresh, self.i));
         let j = word(start(fresh, self.j));
         let judged = words_within(&mut words, i, j, lowest, highest, text, out);
@@ -263,7 +263,7 @@ fn within_code(fresh: bool, key: &[u8], text: &[u8], room: usize) -> u8
 }
 
 // The box of a key where RC4 is keyed afresh, else that of a state, over the numbers 0 to 255.
-fn key_words(state: Rc4, fresh: bool, key: &[u8], words: &mut [u32; 256])
+fn keyed_words(state: Rc4, fresh: bool, key: &[u8], words: &mut [u32; 256])
     requires { ⌜ (now words ≡ below 256) × (fresh ≡ true → 1 ≤ length (now key)) ⌝ }
     ensures { λ _. ⌜ (now (words .exit) ≡ keyedIf state fresh (now (key .entry)) .cells) × OctetCells (now (words .exit)) ⌝ }
 {
@@ -395,13 +395,7 @@ fn words_within(
     let mut first = [0u8; 2];
     let next = run_ones(cells, i, j, &text[..NUMBER], &mut first);
     let number = pair(first[0], first[1]);
-    if number < lowest {
-        return Judged {
-            answer: answer::PROTOCOL,
-            j,
-        };
-    }
-    if highest < number {
+    if beyond(number, lowest, highest) {
         return Judged {
             answer: answer::PROTOCOL,
             j,
@@ -413,6 +407,16 @@ fn words_within(
         answer: answer::DONE,
         j: last,
     }
+}
+
+// Whether a number lies outside bounds.
+fn beyond(number: u16, lowest: u16, highest: u16) -> bool
+    ensures { λ r. ⌜ r ≡ outside lowest highest number ⌝ }
+{
+    if number < lowest {
+        return true;
+    }
+    highest < number
 }
 
 // How many of n octets come before the next place that is a multiple of eight.

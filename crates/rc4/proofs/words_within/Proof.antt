@@ -4,7 +4,7 @@ use native.Mathlib.Nat.{suc-ne-zero}
 use native.Mathlib.Omega.{arith}
 use lib.Seq.{length-take-le}
 use Rattle.rc4.specs.Inner.{wrapped}
-use Rattle.rc4.proofs.Texts.{ready-two, ready-rest, number-low, number-high, number-within, lent-two, finished-parts}
+use Rattle.rc4.proofs.Texts.{ready-two, ready-rest, number-off, number-within, lent-two, finished-parts}
 use borrow.Author.Needs.{needs}
 use Rattle.rc4.proofs.words_within.Statement.{statement}
 use Rattle.rc4.proofs.words_within.Tie as tie
@@ -31,25 +31,17 @@ array-read-pair-2 c = search needs
 pair-requires : tie.Need-pair-requires
 pair-requires c κs = search needs
 
+beyond-requires : tie.Need-beyond-requires
+beyond-requires c κs = search needs
+
 returns : tie.Need-returns
 returns c =
-    let read = c .before in
+    let tested = c .before in
+    let read = tested .before in
     let ran = read .before .before in
     let begun = ran .before .before .before .before .before .before in
     let a = begun .args in (
-      number-low (wrapped (a .cells .now) (a .i) (a .j)) (a .text .now) _ _ (ran .run-ones .ensures .wrote) (read .pair .ensures) (begun .pre .1) (c .if1 .taken),
-      λ z. absurd (suc-ne-zero 3 z),
-      λ h. refl,
-    )
-
-returns-2 : tie.Need-returns-2
-returns-2 c =
-    let low = c .before in
-    let read = low .before in
-    let ran = read .before .before in
-    let begun = ran .before .before .before .before .before .before in
-    let a = begun .args in (
-      number-high (wrapped (a .cells .now) (a .i) (a .j)) (a .text .now) _ _ (ran .run-ones .ensures .wrote) (read .pair .ensures) (begun .pre .1) (low .if1 .left) (c .if2 .taken),
+      number-off (wrapped (a .cells .now) (a .i) (a .j)) (a .text .now) _ _ (ran .run-ones .ensures .wrote) (read .pair .ensures) (begun .pre .1) (tested .beyond .ensures) (c .if1 .taken),
       λ z. absurd (suc-ne-zero 3 z),
       λ h. refl,
     )
@@ -99,17 +91,18 @@ run-words-requires c κs =
 same-length : tie.Need-same-length
 same-length c = search needs
 
-returns-3 : tie.Need-returns-3
-returns-3 c =
+returns-2 : tie.Need-returns-2
+returns-2 c =
     let whole = c .before .before in
     let copied = whole .before .before .before .before .before .before in
     let judged = copied .before .before .before in
-    let read = judged .before .before in
+    let tested = judged .before in
+    let read = tested .before in
     let ran = read .before .before in
     let begun = ran .before .before .before .before .before .before in
     let a = begun .args in
     let first = lent-two (a .text .now) (a .out .now) (ran .run-ones .ensures) (copied .copy .ensures) (begun .pre .1) (begun .pre .0 .room) in (
-      number-within (wrapped (a .cells .now) (a .i) (a .j)) (a .text .now) _ _ (ran .run-ones .ensures .wrote) (read .pair .ensures) (begun .pre .1) (judged .before .if1 .left) (judged .if2 .left),
+      number-within (wrapped (a .cells .now) (a .i) (a .j)) (a .text .now) _ _ (ran .run-ones .ensures .wrote) (read .pair .ensures) (begun .pre .1) (tested .beyond .ensures) (judged .if1 .left),
       λ z. finished-parts 2 first (whole .run-words .ensures) (begun .pre .1),
       λ h. absurd (h refl),
     )
@@ -124,8 +117,8 @@ words-within-spec =
     array-read-pair
     array-read-pair-2
     pair-requires
+    beyond-requires
     returns
-    returns-2
     slice-aggregate-copy
     copy-requires
     add-run-words
@@ -137,4 +130,4 @@ words-within-spec =
     part-run-words-end-2
     run-words-requires
     same-length
-    returns-3)
+    returns-2)

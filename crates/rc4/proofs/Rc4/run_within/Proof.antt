@@ -19,8 +19,8 @@ returns c = let judged = c .before in
 ascending-requires : tie.Need-ascending-requires
 ascending-requires c κs = search needs
 
-key-words-requires : tie.Need-key-words-requires
-key-words-requires c κs = let passed = c .before .before in
+keyed-words-requires : tie.Need-keyed-words-requires
+keyed-words-requires c κs = let passed = c .before .before in
     let judged = passed .before in
     let a = judged .before .before .before .before .args in (
       c .before .ascending .ensures,
@@ -47,7 +47,7 @@ words-within-requires c κs = let j = c .before .before in
     let judged = passed .before in
     let a = judged .before .before .before .before .args in
     let fits = numbered-fits (a .fresh) (a .key .now) (length (a .text .now)) (length (a .out .now)) (judged .within-code .ensures) (passed .if1 .left) in
-    (ready-text _ _ (made .key-words .ensures .1) (i .index .ensures .1) (j .word .ensures .1) (fits .2) (fits .3), fits .1)
+    (ready-text _ _ (made .keyed-words .ensures .1) (i .index .ensures .1) (j .word .ensures .1) (fits .2) (fits .3), fits .1)
 
 same-length : tie.Need-same-length
 same-length c = search needs
@@ -64,7 +64,7 @@ returns-2 c = let ran = c .before .before .before .before in
     let hi = i .index .ensures in
     let hj = j .word .ensures in
     let code =
-    words-number (a .self) (a .fresh) (a .key .now) (a .lowest) (a .highest) (a .text .now) (a .out .now) (made .key-words .ensures .0)
+    words-number (a .self) (a .fresh) (a .key .now) (a .lowest) (a .highest) (a .text .now) (a .out .now) (made .keyed-words .ensures .0)
     (hi .0 ∙ i .before .start .ensures) (hj .0 ∙ j .before .start2 .ensures) (hi .1) (hj .1) (judged .within-code .ensures) (passed .if1 .left) (r .0)
     in
     within-refused _ _ _ _ _ _ _ code (c .if2 .taken) (r .2 (c .if2 .taken))
@@ -104,7 +104,7 @@ returns-3 c = let last-i = c .before in
     let judged = passed .before in
     let a = judged .before .before .before .before .args in
     let r = ran .words-within .ensures in
-    let w = made .key-words .ensures .0 in
+    let w = made .keyed-words .ensures .0 in
     let hi = i .index .ensures in
     let hj = j .word .ensures in
     let ei = hi .0 ∙ i .before .start .ensures in
@@ -122,7 +122,7 @@ run-within-spec =
     within-code-requires
     returns
     ascending-requires
-    key-words-requires
+    keyed-words-requires
     start-requires
     index-requires
     start-requires-2

@@ -1,8 +1,8 @@
 use Rattle.rc4.specs.Cipher.{keySchedule}
 use Rattle.rc4.specs.Answers.{keyedIf}
 use Rattle.rc4.proofs.Keys.{below-cells}
-use Rattle.rc4.proofs.key_words.Statement.{statement}
-use Rattle.rc4.proofs.key_words.Tie as tie
+use Rattle.rc4.proofs.keyed_words.Statement.{statement}
+use Rattle.rc4.proofs.keyed_words.Tie as tie
 
 key-schedule-requires : tie.Need-key-schedule-requires
 key-schedule-requires c κs = let taken = c .before in
@@ -20,5 +20,5 @@ returns-2 : tie.Need-returns-2
 unfolding keyedIf
 returns-2 c = (rw (c .before .before .before .if1 .left) (c .widen .ensures .0), c .widen .ensures .1)
 
-pub key-words-spec : {M : Type 1} → statement M
-key-words-spec = tie.close (tie.spec key-schedule-requires returns widen-requires returns-2)
+pub keyed-words-spec : {M : Type 1} → statement M
+keyed-words-spec = tie.close (tie.spec key-schedule-requires returns widen-requires returns-2)
