@@ -108,7 +108,7 @@ module _ (s : Strength) (start : List ℕ) where
       (dueOf longestPlain farthest s start (sealed n) next was held q (replicate 2 0) .outcome .link) cs
       → Meets longestPlain farthest s start (sealed n) mostLost next was held (arrives (sealed n) q ∷ cs)
   unfolding Meets
-  comes n next q was held cs there ahead near plain rest = (omega (arith, sealed-length n), ahead, near, refl, plain, rest)
+  comes n next q was held cs there ahead near plain rest = (omega (arith, sealed-length n), omega arith, omega arith, refl, plain, rest)
 
   no-more : (n next : ℕ) (was : Bool) (held : Link) → Meets longestPlain farthest s start (sealed n) mostLost next was held []
   unfolding Meets
