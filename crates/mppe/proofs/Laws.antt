@@ -33,7 +33,7 @@ use Rattle.ccp.specs.Laws.{reset-done, reset-shape}
 use Rattle.mppe.specs.declared.Link.{Link}
 use Rattle.mppe.specs.declared.Outcome.{Outcome}
 use Rattle.mppe.specs.Link.{boxFits, opensBy, changesOver, withBox, keptBox, noLink, packetOn, shortestPlain, longestPlain, front, counts, newCount, zeros, wellFormed, startKeyIn, sessionKeyIn, renewed, newLink, newLinkCode, offProtocol, bitA, bitD, header, headerIn, dataIn, countOf, Result, refusal}
-use Rattle.mppe.specs.Link.{plainRows, nextCount, nextChanges, nextKey, keysAfresh, nextBox, sealCode, sealResult, awayFor, changesFor, keyFor, boxFor, stateFor, plainFor, waited, lacks, linkAfter, frontRows, headerRows, dataRows, openCode, openResult, resetCode, resetOutcome}
+use Rattle.mppe.specs.Link.{judged, plainRows, nextCount, nextChanges, nextKey, keysAfresh, nextBox, sealCode, sealResult, awayFor, changesFor, keyFor, boxFor, stateFor, plainFor, waited, lacks, linkAfter, frontRows, headerRows, dataRows, openCode, openResult, resetCode, resetOutcome}
 use Rattle.mppe.specs.Inner.{frontCode, roomRows, headerCode, cipherIn, carriedCode, deciphered, decipheredOut, settledOn, waitedOn, dataResult}
 use Rattle.mppe.specs.Laws.{key-back, endings-are, well-box, fits-unmarked}
 
@@ -529,3 +529,19 @@ reset-taken l request h e z em el =
         (record { answer = done; changes = 0; link = withBox l (l .state) (byMode mode mark true) })
     by Stateless mark e = rw (e refl)
     by Stateful mark e = refl
+
+-- a packet judged before its data are there: by an ill-formed record, by the length of its data, and by its header
+pub judged-ill : (limit far : ℕ) (l : Link) (h n : ℕ) → wellFormed l ≡ false → record { answer = notRecord; changes = 0 } ≡ judged limit far l h n
+unfolding judged
+judged-ill limit far l h n ill = rw ill
+
+pub judged-misshapen : {away made : ℕ} (limit far : ℕ) (l : Link) (h n : ℕ) → wellFormed l ≡ true → away ≡ awayFor l h
+    → made ≡ changesOver (l .mode) (l .count) away → outside shortestPlain limit n ≡ true → record { answer = shape; changes = made } ≡ judged limit far l h n
+unfolding judged
+judged-misshapen limit far l h n well ea em long = rw (well, long, em, ea)
+
+pub judged-header : {away made code : ℕ} (limit far : ℕ) (l : Link) (h n : ℕ) → wellFormed l ≡ true → away ≡ awayFor l h
+    → made ≡ changesOver (l .mode) (l .count) away → outside shortestPlain limit n ≡ false → code ≡ headerCode far (l .mode) (l .waiting) h away 0 0
+    → record { answer = code; changes = made } ≡ judged limit far l h n
+unfolding judged headerCode
+judged-header limit far l h n well ea em long ec = rw (ec, well, long, em, ea)

@@ -1,25 +1,26 @@
 -- What holds of records, packets and counts, once over the strengths.
 use mathlib.Core.Path.{_≡_, refl, sym, ap, _∙_}
-use mathlib.Core.Bool.{Bool, true, false, not, _&&_}
+use mathlib.Core.Bool.{Bool, true, false, not, _&&_, false≢true}
 use mathlib.Core.List.{List, [], _∷_, _++_}
 use Prim.Native.Nat.{ℕ, zero, suc, _+_, _-_, _/_, _%_, _<_, _≤_}
 use native.Mathlib.Nat.{suc-ne-zero}
 use native.Mathlib.Omega.{arith}
 use lib.Dec.{eqb, ltb}
-use lib.ListN.{length, take, drop, getD, replicate}
+use lib.ListN.{length, take, drop, getD, replicate, length-take}
 use lib.Seq.{take-append-seam, drop-append-seam}
 use borrow.Author.Tests.{lt-ltb, le-ltb, eq-eqb, ne-eqb, ltb-false, eqb-true, eqb-false, not-true}
-use Rattle.answer.specs.Answer.{done, flags, repeat, late, waiting, pick, outside, firstOf}
+use Rattle.answer.specs.Answer.{done, flags, repeat, late, waiting, pick, outside, firstOf, onDone}
 use Rattle.answer.specs.Laws.{both, clear, never, rows-pass, rows-passed, within, outside-none}
 use Rattle.rc4.specs.declared.Rc4.{Rc4}
-use Rattle.rc4.specs.Cipher.{permutation, unkeyed, isUnkeyed}
-use Rattle.rc4.specs.Permutation.{unkeyed-found, unkeyed-permutation}
+use Rattle.rc4.specs.Cipher.{permutation, unkeyed, isUnkeyed, keySchedule, after}
+use Rattle.rc4.specs.Permutation.{whole-permutation, permutation-whole, after-whole, keyed-whole, unkeyed-found, unkeyed-permutation}
 use Rattle.mppe_keys.specs.declared.Strength.{Strength}
 use Rattle.mppe_keys.specs.declared.Mode.{Mode}
 use Rattle.mppe_keys.specs.declared.Mode.the-variants.{Stateless, Stateful}
-use Rattle.mppe_keys.specs.Keys.{keyLength, byMode, headOf, begins, placed}
+use Rattle.mppe_keys.specs.Keys.{keyLength, byMode, headOf, begins, keyChange, changes, placed}
+use Rattle.mppe_keys.specs.Laws.{key-least, head-most, keyChange-length, keyChange-head}
 use Rattle.mppe.specs.declared.Link.{Link}
-use Rattle.mppe.specs.Link.{shortestPlain, front, counts, newCount, zeros, boxFits, wellFormed, linkOf, bitA, bitD, header, packetOn, headerIn, countOf, lacks, dataIn, distance, endings, changesOver, awayFor, changesFor, frontRows, dataRows, refusal, waited, openRows, openCode, openedBy, openResult}
+use Rattle.mppe.specs.Link.{shortestPlain, front, counts, newCount, zeros, boxFits, wellFormed, startKeyIn, linkOf, keyFor, boxFor, stateFor, linkAfter, bitA, bitD, header, packetOn, headerIn, countOf, lacks, dataIn, distance, endings, changesOver, awayFor, changesFor, frontRows, dataRows, refusal, waited, openRows, openCode, openedBy, openResult}
 
 -- zeros are zeros
 pub zeros-all : (n : ℕ) → zeros (replicate n 0) ≡ true
@@ -71,6 +72,91 @@ unfolding boxFits
 fits-unmarked mode state mark em h =
     let h′ : permutation (state .cells) && (isUnkeyed state && not mark) ≡ true = rw em at h in
     not-true mark (both (isUnkeyed state) (not mark) (both (permutation (state .cells)) (isUnkeyed state && not mark) h′ .1) .1)
+
+-- zeros behind a key that fills its places or fewer, and what a key begins with
+zeros-drop : (n m : ℕ) → zeros (drop n (replicate m 0)) ≡ true
+zeros-drop zero m = zeros-all m
+zeros-drop (suc n) zero = unfold zeros in refl
+zeros-drop (suc n) (suc m) = zeros-drop n m
+
+zeros-behind : (n : ℕ) (key : List ℕ) (m : ℕ) → length key ≤ n → zeros (drop n (key ++ replicate m 0)) ≡ true
+zeros-behind n [] m h = zeros-drop n m
+zeros-behind zero (x ∷ key) m h = absurd (omega arith)
+zeros-behind (suc n) (x ∷ key) m h = zeros-behind n key m (omega arith)
+
+begins-still : (front key rest : List ℕ) (n : ℕ) → length front ≤ n → begins front key ≡ true → begins front (take n key ++ rest) ≡ true
+unfolding begins
+begins-still [] key rest n h e = refl
+begins-still (x ∷ front) [] rest n h e = absurd (false≢true e)
+begins-still (x ∷ front) (y ∷ key) rest zero h e = absurd (omega arith)
+begins-still (x ∷ front) (y ∷ key) rest (suc n) h e = go (eqb y x) e (begins-still front key rest n (omega arith))
+  where
+    go : (t : Bool) → pick t (begins front key) false ≡ true → (begins front key ≡ true → begins front (take n key ++ rest) ≡ true)
+        → pick t (begins front (take n key ++ rest)) false ≡ true
+    go true e later = later e
+    go false e later = e
+
+-- a box that is a permutation
+abbrev pub Box : Rc4 → Type 0
+Box state = permutation (state .cells) ≡ true
+
+pub after-box : (state : Rc4) (text : List ℕ) → Box state → Box (after state text)
+after-box state text h = whole-permutation (after state text .cells) (after-whole state text (permutation-whole (state .cells) h))
+
+pub keyed-box : (key : List ℕ) → Box (keySchedule key)
+keyed-box key = whole-permutation (keySchedule key .cells) (keyed-whole key)
+
+pub picked-box : (t : Bool) (a b : Rc4) → Box a → Box b → Box (pick t a b)
+picked-box true a b ha hb = ha
+picked-box false a b ha hb = hb
+
+-- the session key of a record after so many changes, in its places, is as well formed as the one before
+changed-well : (s : Strength) (start session : List ℕ) (n : ℕ) → begins (headOf s) session ≡ true
+    → (zeros (drop (keyLength s) (placed (changes s start n (take (keyLength s) session)))) ≡ true)
+    × (begins (headOf s) (placed (changes s start n (take (keyLength s) session))) ≡ true)
+unfolding changes placed
+changed-well s start session zero h =
+    let key : List ℕ = take (keyLength s) session in (
+      zeros-behind (keyLength s) key (16 - length key) (omega (arith, length-take (keyLength s) session)),
+      begins-still (headOf s) session (replicate (16 - length key) 0) (keyLength s) (omega (arith, head-most s, key-least s)) h,
+    )
+changed-well s start session (suc n) h =
+    let key : List ℕ = keyChange s start (changes s start n (take (keyLength s) session)) in
+    let long : length key ≡ keyLength s = keyChange-length s start _ in (
+      zeros-behind (keyLength s) key (16 - length key) (omega (arith, long)),
+      begins-front (headOf s) key (replicate (16 - length key) 0) (keyChange-head s start _),
+    )
+
+-- the box that a packet is opened with
+pub state-box : (l : Link) (h : ℕ) → Box (l .state) → Box (stateFor l h)
+unfolding stateFor boxFor
+state-box l h held = picked-box (lacks bitA h) _ _ (go (changesFor l h)) (keyed-box (keyFor l h))
+  where
+    go : (n : ℕ) → Box (onDone n (l .state) (keySchedule (keyFor l h)))
+    go zero = held
+    go (suc n) = keyed-box (keyFor l h)
+
+-- the box that a record keeps after draws
+fits-after : (mode : Mode) (state drawn : Rc4) (mark : Bool) → (Box state → Box drawn) → boxFits mode state mark ≡ true
+    → boxFits mode (byMode mode state drawn) false ≡ true
+fits-after Stateless state drawn mark next fits = rw (fits-unmarked Stateless state mark refl fits) at fits
+fits-after Stateful state drawn mark next fits = unfold boxFits in rw (next (both (permutation (state .cells)) true (unfold boxFits in fits) .0))
+
+-- the record after an opened packet is well formed
+pub after-well : (l : Link) (h : ℕ) (text : List ℕ) → wellFormed l ≡ true → wellFormed (linkAfter l h text) ≡ true
+unfolding wellFormed keyFor
+after-well l h text whole =
+    let s : Strength = l .strength in
+    let count : Bool = ltb (l .count) counts in
+    let start : Bool = zeros (drop (keyLength s) (l .start)) in
+    let session : Bool = zeros (drop (keyLength s) (l .session)) in
+    let head : Bool = begins (headOf s) (l .session) in
+    let (keys, fits) = both (count && start && session && head) (boxFits (l .mode) (l .state) (l .waiting)) whole in
+    let (places, begun) = both (count && start && session) head keys in
+    let zeros-start = both count start (both (count && start) session places .0) .1 in
+    let (zeros-key, head-key) = changed-well s (startKeyIn l) (l .session) (changesFor l h) begun in
+    let box-after = fits-after (l .mode) (l .state) (after (stateFor l h) text) (l .waiting) (λ held. after-box (stateFor l h) text (state-box l h held)) fits in
+    rw (lt-ltb (countOf h) counts (omega arith), zeros-start, zeros-key, head-key, box-after)
 
 -- a packet with data of a carried length passes the rows that the record and the packet's shape decide
 pub front-none : (limit : ℕ) (l : Link) (fresh : Bool) (count : ℕ) (text : List ℕ) → wellFormed l ≡ true → outside shortestPlain limit (length text) ≡ false

@@ -16,6 +16,7 @@ use Rattle.ccp.specs.Reset.{resetRows}
 use Rattle.mppe.specs.declared.Link.{Link}
 use Rattle.mppe.specs.declared.NewLink.{NewLink}
 use Rattle.mppe.specs.declared.Outcome.{Outcome}
+use Rattle.mppe.specs.declared.Judged.{Judged}
 
 -- "Plain packet (two protocol octets and payload): 2 to 1,498"
 abbrev pub shortestPlain : ℕ
@@ -289,6 +290,14 @@ openedBy code l h text out =
 -- what open gives
 unfoldable pub openResult : (limit far : ℕ) (l : Link) (packet out : List ℕ) → Result
 openResult limit far l packet out = openedBy (openCode limit far l packet (length out)) l (headerIn packet) (dataIn packet) out
+
+-- what a record says of a header and the length of the data behind it, before these are there: open's order as far as 11, and the key
+-- changes that the header's count brings (02, M-104)
+abbrev pub judgedRows : (limit far : ℕ) → Link → (h n : ℕ) → List (ℕ × Bool)
+judgedRows limit far l h n = (notRecord, not (wellFormed l)) ∷ (shape, outside shortestPlain limit n) ∷ headerRows far l h
+
+unfoldable pub judged : (limit far : ℕ) → Link → (h n : ℕ) → Judged
+judged limit far l h n = record { answer = firstOf (judgedRows limit far l h n); changes = pick (wellFormed l) (changesFor l h) 0 }
 
 -- "a Reset-Request .. sets a stateful sender's mark and leaves a stateless record as it is, answer 0; 7 comes before 1"
 unfoldable pub resetCode : Link → List ℕ → ℕ

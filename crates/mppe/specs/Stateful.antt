@@ -16,7 +16,7 @@ use Rattle.octets.specs.Octets.{written}
 use Rattle.rc4.specs.declared.Rc4.{Rc4}
 use Rattle.rc4.specs.Cipher.{unkeyed, permutation, keySchedule, run, after}
 use Rattle.rc4.specs.Laws.{run-length, run-twice, after-length}
-use Rattle.rc4.specs.Permutation.{whole-permutation, permutation-whole, after-whole, keyed-whole, unkeyed-found, unkeyed-permutation}
+use Rattle.rc4.specs.Permutation.{unkeyed-found, unkeyed-permutation}
 use Rattle.mppe_keys.specs.declared.Strength.{Strength}
 use Rattle.mppe_keys.specs.declared.Mode.the-variants.{Stateful}
 use Rattle.mppe_keys.specs.Keys.{keyLength, byMode, initialKey, keyChange, changes}
@@ -24,24 +24,10 @@ use Rattle.mppe_keys.specs.Laws.{initialKey-length, initialKey-head, changes-le
 use Rattle.ccp.specs.Reset.{resetRows}
 use Rattle.mppe.specs.declared.Link.{Link}
 use Rattle.mppe.specs.Link.{longestPlain, counts, newCount, farthest, boxFits, wellFormed, startKeyIn, sessionKeyIn, linkOf, renewed, withBox, keptBox, newLink, newLinkCode, offProtocol, packetOn, headerIn, dataIn, countOf, endings, changesOver, Result, finished, unopened, refusal, plainRows, nextCount, nextChanges, nextKey, keysAfresh, nextBox, sealCode, sealResult, awayFor, changesFor, keyFor, boxFor, opens, stateFor, plainFor, linkAfter, waited, frontRows, headerRows, dataRows, openCode, openResult, resetCode, resetOutcome}
-use Rattle.mppe.specs.Laws.{key-back, well, front-none, headerOf, sealed-header, header-count, header-A, header-D, distance-is, endings-are}
+use Rattle.mppe.specs.Laws.{Box, after-box, keyed-box, picked-box, key-back, well, front-none, headerOf, sealed-header, header-count, header-A, header-D, distance-is, endings-are}
 use Rattle.mppe.specs.Run.{mostLost, SealCall, OpenCall, arrival, other, saidCode, openRun}
 use Rattle.mppe.specs.Demand3.{Sealable, open-other}
 use Rattle.mppe.specs.StatefulRun.{SendCall, seal, reset, History, Packet, first, beginning, heldBy, ends, nextSession, freshly, boxUsed, sealedOn, packetOf, asked, numbered, sendRun, onward, packets, saidOf, said, opened, dueOf, Meets, due, StatefulRun}
-
--- a box that is a permutation
-abbrev Box : Rc4 → Type 0
-Box state = permutation (state .cells) ≡ true
-
-after-box : (state : Rc4) (text : List ℕ) → Box state → Box (after state text)
-after-box state text h = whole-permutation (after state text .cells) (after-whole state text (permutation-whole (state .cells) h))
-
-keyed-box : (key : List ℕ) → Box (keySchedule key)
-keyed-box key = whole-permutation (keySchedule key .cells) (keyed-whole key)
-
-picked-box : (t : Bool) (a b : Rc4) → Box a → Box b → Box (pick t a b)
-picked-box true a b ha hb = ha
-picked-box false a b ha hb = hb
 
 module _ (s : Strength) (start : List ℕ) where
   -- the session key when m packets are done with

@@ -9,7 +9,7 @@ ghost use Rattle.answer.specs.Answer.{pick, outside};
 ghost use Rattle.octets.specs.Octets.{written};
 ghost use Rattle.rc4.specs.Cipher.{run, after};
 ghost use Rattle.mppe_keys.specs.Keys.{byMode, changes as changesOf};
-ghost use Rattle.mppe.specs.Link.{shortestPlain, longestPlain, front, counts, zeros, boxFits, wellFormed, noLink, newLink, startKeyIn, sessionKeyIn, withBox, keptBox, renewed, bitA, bitD, header, lacks, opensBy, distance as distanceOf, farthest, changesOver, refusal, sealCode, sealResult, openResult, resetOutcome};
+ghost use Rattle.mppe.specs.Link.{shortestPlain, longestPlain, front, counts, zeros, boxFits, wellFormed, noLink, newLink, startKeyIn, sessionKeyIn, withBox, keptBox, renewed, bitA, bitD, header, lacks, opensBy, distance as distanceOf, farthest, changesOver, refusal, sealCode, sealResult, openResult, judged, resetOutcome};
 ghost use Rattle.mppe.specs.Inner.{frontCode, headerCode, cipherIn, deciphered, decipheredOut, settledOn, waitedOn, dataResult};
 use mppe_keys::Mode;
 use mppe_keys::Strength;
@@ -64,6 +64,12 @@ pub struct Outcome {
     pub answer: u8,
     pub changes: u16,
     pub link: Link,
+}
+
+// What a record says of a packet before its data are there: the number answered, and the key changes that its count brings.
+pub struct Judged {
+    pub answer: u8,
+    pub changes: u16,
 }
 
 impl Link {
@@ -160,6 +166,31 @@ impl Link {
             answer: answer::DONE,
             changes,
             link: settled(next, left),
+        }
+    }
+
+    // Judges a packet by its header and the length of its data, before these are there. An ill-formed record brings no change.
+    pub fn judge(self, header: u16, length: usize) -> Judged
+        ensures { λ r. ⌜ r ≡ judged longestPlain farthest self header length ⌝ }
+    {
+        if !well_formed(self) {
+            return Judged {
+                answer: answer::RECORD,
+                changes: 0,
+            };
+        }
+        let away = distance(self.count, header % COUNTS);
+        let mode = self.mode;
+        let changes = changes_over(mode, self.count, away);
+        if beyond_plain(length) {
+            return Judged {
+                answer: answer::SHAPE,
+                changes,
+            };
+        }
+        Judged {
+            answer: header_code(mode, self.waiting, header, away, 0, 0),
+            changes,
         }
     }
 
@@ -322,7 +353,7 @@ fn either(a: bool, b: bool) -> bool
 }
 
 // Whether a record is well formed.
-fn well_formed(link: Link) -> bool
+pub fn well_formed(link: Link) -> bool
     ensures { λ r. ⌜ r ≡ wellFormed link ⌝ }
 {
     if COUNTS <= link.count {
@@ -375,8 +406,18 @@ fn zeros_from(places: [u8; 16], from: usize) -> bool
     true
 }
 
+// Whether a length is none of a plain packet's.
+fn beyond_plain(length: usize) -> bool
+    ensures { λ r. ⌜ r ≡ outside shortestPlain longestPlain length ⌝ }
+{
+    if length < SHORTEST_PLAIN {
+        return true;
+    }
+    LONGEST_PLAIN < length
+}
+
 // Whether the protocol number of two octets is one that is not carried.
-fn off_protocol(high: u8, low: u8) -> bool
+pub fn off_protocol(high: u8, low: u8) -> bool
     ensures { λ r. ⌜ r ≡ outside 0x0021 0x00FA (high * 256 + low) ⌝ }
 {
     let number = pair(high, low);

@@ -1,0 +1,2 @@
+-- Definitions that the contracts of public calls cite: what a reader must believe.
+pub mod Walk
