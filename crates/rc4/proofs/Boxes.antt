@@ -2,7 +2,6 @@
 use mathlib.Core.Path.{_≡_, refl, sym, _∙_}
 use mathlib.Core.List.{List, [], _∷_}
 use Prim.Native.Nat.{ℕ, zero, suc, _+_, _<_, _≤_}
-use native.Mathlib.Nat.{add-assoc}
 use native.Mathlib.Numerals.{add-one}
 use native.Mathlib.Omega.{arith}
 use lib.ListN.{length, getD, set, take, replicate, length-set}
@@ -57,13 +56,13 @@ pub copied-none : (from to : List ℕ) → OctetCells to → Copied from to 0
 copied-none from to whole = record { within = omega arith; whole = whole; same = refl }
 
 -- one more
-pub copied-more : (from to : List ℕ) (n k v : ℕ) → Copied from to (n + k) → v ≡ getD from (n + k) 0 → v < 256 → length from ≡ 256 → n + k < 256
-    → Copied from (set to (n + k) v) (n + (k + 1))
-copied-more from to n k v c read fits long h =
+pub copied-more : (from to : List ℕ) (n m v : ℕ) → Copied from to n → v ≡ getD from n 0 → v < 256 → length from ≡ 256 → n < 256 → m ≡ n + 1
+    → Copied from (set to n v) m
+copied-more from to n m v c read fits long h next =
     record {
       within = omega arith;
-      whole = record { long = simp length-set (c .whole .long); octets = set-octets to (n + k) v fits (c .whole .octets) };
-      same = rw (← add-assoc n k 1) (front-more from to (n + k) v (c .same) read (omega arith) (omega (arith, c .whole .long)));
+      whole = record { long = simp length-set (c .whole .long); octets = set-octets to n v fits (c .whole .octets) };
+      same = rw next (front-more from to n v (c .same) read (omega arith) (omega (arith, c .whole .long)));
     }
 
 -- all of them

@@ -3,7 +3,7 @@ use mathlib.Core.Path.{_≡_, refl, sym, ap, _∙_}
 use mathlib.Core.List.{List, [], _∷_, _++_}
 use Prim.Native.Nat.{ℕ, zero, suc, _+_, _*_, _%_, _<_, _≤_}
 use borrow.Author.Tests.{lt-ltb, le-ltb}
-use native.Mathlib.Nat.{add-assoc, mod-add-mod, zero-mod}
+use native.Mathlib.Nat.{mod-add-mod, zero-mod}
 use native.Mathlib.Numerals.{add-one}
 use native.Mathlib.Omega.{arith}
 use lib.ListN.{length, take, set, getD, replicate}
@@ -17,12 +17,12 @@ use Rattle.rc4.proofs.Boxes.{swap-octets}
 use Rattle.rc4.specs.Answers.{shortestKey, longestKey, keyedAnswer}
 
 -- one cell more of the box that a key schedule starts from
-pub below-more : (cells : List ℕ) (n k v : ℕ) → take (n + k) cells ≡ below (n + k) → v ≡ n + k → length cells ≡ 256 → n + k < 256
-    → take (n + (k + 1)) (set cells (n + k) v) ≡ below (n + (k + 1))
+pub below-more : (cells : List ℕ) (n m v : ℕ) → take n cells ≡ below n → v ≡ n → length cells ≡ 256 → n < 256 → m ≡ n + 1
+    → take m (set cells n v) ≡ below m
 unfolding below
-below-more cells n k v e at long h =
-    let fits : n + k < length cells = omega arith in
-    rw (← add-assoc n k 1, add-one, take-suc-set cells (n + k) v fits, e, at)
+below-more cells n m v e at long h next =
+    let fits : n < length cells = omega arith in
+    rw (next, add-one, take-suc-set cells n v fits, e, at)
 
 -- an octet behind octets
 snoc-octets : (l : List ℕ) (v : ℕ) → v < 256 → ((k : ℕ) → getD l k 0 < 256) → (k : ℕ) → getD (l ++ (v ∷ [])) k 0 < 256
@@ -37,7 +37,7 @@ unfolding below
 below-octets zero h k = omega arith
 below-octets (suc n) h k = snoc-octets (below n) n h (below-octets n (omega arith)) k
 
-pub below-cells : {cells : List ℕ} → cells ≡ below 256 → OctetCells cells
+below-cells : {cells : List ℕ} → cells ≡ below 256 → OctetCells cells
 below-cells e = rw e (record { long = below-length 256; octets = below-octets 256 (omega arith) })
 
 -- the box, j and the place in the key after the first i rounds, j not wrapped mod 256

@@ -75,8 +75,8 @@ impl Rc4 {
     pub fn draw(self) -> Drawn
         ensures { λ r. ⌜ r ≡ drawAnswer self ⌝ }
     {
-        let cells = self.cells;
         let mut words = [0u32; 256];
+        let cells = self.cells;
         widen(cells, &mut words);
         let i = index(self.i);
         let x = first_cell(&words, i);
@@ -131,7 +131,7 @@ impl Rc4 {
                 state: self,
             };
         }
-        let mut words = ascending();
+        let mut words = [0u32; 256];
         keyed_words(self, fresh, key, &mut words);
         let i = index(start(fresh, self.i));
         let j = word(start(fresh, self.j));
@@ -165,9 +165,8 @@ impl Rc4 {
     pub fn unkeyed() -> Rc4
         ensures { λ r. ⌜ r ≡ unkeyed ⌝ }
     {
-        let words = ascending();
         Rc4 {
-            cells: narrow(&words),
+            cells: ascending_octets(),
             i: 0,
             j: 0,
         }
@@ -262,12 +261,13 @@ fn within_code(fresh: bool, key: &[u8], text: &[u8], room: usize) -> u8
     run_code(text, room)
 }
 
-// The box of a key where RC4 is keyed afresh, else that of a state, over the numbers 0 to 255.
+// The box of a key where RC4 is keyed afresh, else that of a state, over any box.
 fn keyed_words(state: Rc4, fresh: bool, key: &[u8], words: &mut [u32; 256])
-    requires { ⌜ (now words ≡ below 256) × (fresh ≡ true → 1 ≤ length (now key)) ⌝ }
+    requires { ⌜ OctetCells (now words) × (fresh ≡ true → 1 ≤ length (now key)) ⌝ }
     ensures { λ _. ⌜ (now (words .exit) ≡ keyedIf state fresh (now (key .entry)) .cells) × OctetCells (now (words .exit)) ⌝ }
 {
     if fresh {
+        *words = ascending();
         key_schedule(key, words);
         return;
     }
@@ -323,6 +323,19 @@ fn ascending() -> [u32; 256]
     cells
 }
 
+// The same numbers as octets.
+fn ascending_octets() -> [u8; 256]
+    ensures { λ r. ⌜ r ≡ below 256 ⌝ }
+{
+    let mut cells = [0u8; 256];
+    let mut n = 0;
+    while n < 256 {
+        cells[n] = octet(n);
+        n += 1;
+    }
+    cells
+}
+
 // One round of the key schedule: the next j, and two cells swapped.
 fn mix(cells: &mut [u32; 256], i: usize, j: u32, k: u8) -> u32
     requires { ⌜ OctetCells (now cells) × (i < 256) × (j < 2 ^ 31) ⌝ }
@@ -343,14 +356,14 @@ fn next_place(k: usize, n: usize) -> usize
     if k + 1 == n { 0 } else { k + 1 }
 }
 
-// A text within its limit, xored with the draws, into a buffer with room for it; the state after it.
+// A text within its limit, xored with the draws, into a buffer with room for it; the state after it. The cells are read behind the zeros, which saves a copy.
 fn run_text(state: Rc4, text: &[u8], out: &mut [u8]) -> Rc4
     requires { ⌜ (length (now text) ≤ longestText) × (length (now text) ≤ length (now out)) ⌝ }
     ensures { λ r. ⌜ (r ≡ after state (now (text .entry)))
         × (now (out .exit) ≡ written (run state (now (text .entry))) (now (out .entry))) ⌝ }
 {
-    let cells = state.cells;
     let mut words = [0u32; 256];
+    let cells = state.cells;
     widen(cells, &mut words);
     let i = index(state.i);
     let j = run_words(&mut words, i, word(state.j), text, out);
@@ -577,23 +590,19 @@ fn swap_cells(cells: &mut [u32; 256], a: usize, x: u32, b: usize)
     cells[b] = x;
 }
 
-// A box of octets as one of words, which is faster: an octet that is stored and soon loaded again waits. Four cells in each turn.
+// A box of octets as one of words, which is faster: an octet that is stored and soon loaded again waits.
 fn widen(cells: [u8; 256], words: &mut [u32; 256])
     requires { ⌜ OctetCells (now words) ⌝ }
     ensures { λ _. ⌜ (now (words .exit) ≡ cells) × OctetCells (now (words .exit)) ⌝ }
 {
     let mut n = 0;
     while n < 256 {
-        let mut k = 0;
-        while k < 4 {
-            words[n + k] = word(cells[n + k]);
-            k += 1;
-        }
-        n += 4;
+        words[n] = word(cells[n]);
+        n += 1;
     }
 }
 
-// A box of words as one of octets, four cells in each turn.
+// A box of words as one of octets, sixteen cells in each turn: then sixteen octets are stored at once.
 fn narrow(words: &[u32; 256]) -> [u8; 256]
     requires { ⌜ OctetCells (now words) ⌝ }
     ensures { λ r. ⌜ r ≡ now (words .entry) ⌝ }
@@ -602,11 +611,11 @@ fn narrow(words: &[u32; 256]) -> [u8; 256]
     let mut n = 0;
     while n < 256 {
         let mut k = 0;
-        while k < 4 {
+        while k < 16 {
             cells[n + k] = low(cell(words, n + k));
             k += 1;
         }
-        n += 4;
+        n += 16;
     }
     cells
 }

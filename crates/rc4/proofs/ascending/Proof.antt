@@ -55,7 +55,7 @@ loop2-again c =
     let turn = c .before in
     let outer = turn .before .before in
     let l = turn .loop2 in
-    (below-more (l .cells) (outer .loop .n) (l .k) _ (l .inv .0) (l .inv .2) (l .inv .1) (omega arith), simp length-set (l .inv .1), omega arith, omega arith)
+    (below-more (l .cells) (outer .loop .n + l .k) _ _ (l .inv .0) (l .inv .2) (l .inv .1) (omega arith) (omega arith), simp length-set (l .inv .1), omega arith, omega arith)
 
 add-n : tie.Need-add-n Inv-loop2 μ-loop2 Inv-loop μ-loop
 add-n c = search needs

@@ -1,4 +1,4 @@
--- The first n cells are the first n words in each turn of `narrow`. Of the four cells of a turn, k are done in the inner loop.
+-- The first n cells are the first n words in each turn of `narrow`. Of the sixteen cells of a turn, k are done in the inner loop.
 use mathlib.Core.Path.{_≡_, _∙_}
 use Prim.Native.Nat.{_+_, _%_, _-_, _≤_}
 use native.Mathlib.Nat.{add-zero, mod-eq-of-lt}
@@ -9,13 +9,13 @@ use Rattle.rc4.proofs.narrow.Statement.{statement}
 use Rattle.rc4.proofs.narrow.Tie as tie
 
 abbrev Inv-loop2 : tie.InvT-loop2
-Inv-loop2 words cells₀ n k₀ cells k = Copied words cells (n + k) × (k ≤ 4)
+Inv-loop2 words cells₀ n k₀ cells k = Copied words cells (n + k) × (k ≤ 16)
 
 abbrev μ-loop2 : tie.MeasureT-loop2
-μ-loop2 words cells₀ n k₀ cells k = 4 - k
+μ-loop2 words cells₀ n k₀ cells k = 16 - k
 
 abbrev Inv-loop : tie.InvT-loop
-Inv-loop words cells₀ n₀ cells n = Copied words cells n × (n % 4 ≡ 0)
+Inv-loop words cells₀ n₀ cells n = Copied words cells n × (n % 16 ≡ 0)
 
 abbrev μ-loop : tie.MeasureT-loop
 μ-loop words cells₀ n₀ cells n = 256 - n
@@ -54,7 +54,7 @@ loop2-again c =
     let outer = turn .before .before in
     let l = turn .loop2 in
     let w = read .cell .ensures in
-    (copied-more _ _ (outer .loop .n) (l .k) _ (l .inv .0) (c .low .ensures ∙ mod-eq-of-lt (w .1) ∙ w .0) (omega arith) (outer .before .pre .long) (omega arith), omega arith)
+    (copied-more _ _ (outer .loop .n + l .k) _ _ (l .inv .0) (c .low .ensures ∙ mod-eq-of-lt (w .1) ∙ w .0) (omega arith) (outer .before .pre .long) (omega arith) (omega arith), omega arith)
 
 add-n : tie.Need-add-n Inv-loop2 μ-loop2 Inv-loop μ-loop
 add-n c = search needs
@@ -65,7 +65,7 @@ loop-less c = search needs
 loop-again : tie.Need-loop-again Inv-loop2 μ-loop2 Inv-loop μ-loop
 loop-again c =
     let l = c .before .loop2 in
-    let all : l .k ≡ 4 = omega arith in
+    let all : l .k ≡ 16 = omega arith in
     (rw all at (l .inv .0), omega arith)
 
 returns : tie.Need-returns Inv-loop2 μ-loop2 Inv-loop μ-loop

@@ -3,6 +3,7 @@ use mathlib.Core.Path.{refl, _∙_}
 use native.Mathlib.Omega.{arith}
 use lib.ListN.{length}
 use borrow.Author.Needs.{needs}
+use Rattle.rc4.proofs.Boxes.{zero-cells}
 use Rattle.rc4.proofs.Texts.{numbered-fits, ready-text, numbered-stop, within-refused, words-number, words-done}
 use Rattle.rc4.proofs.Rc4.run_within.Statement.{statement}
 use Rattle.rc4.proofs.Rc4.run_within.Tie as tie
@@ -16,14 +17,11 @@ returns c = let judged = c .before in
     within-refused _ _ _ _ _ _ _ (numbered-stop (a .self) (a .fresh) (a .key .now) (a .lowest) (a .highest) (a .text .now) (a .out .now) (judged .within-code .ensures) (c .if1 .taken))
     (c .if1 .taken) refl
 
-ascending-requires : tie.Need-ascending-requires
-ascending-requires c κs = search needs
-
 keyed-words-requires : tie.Need-keyed-words-requires
-keyed-words-requires c κs = let passed = c .before .before in
+keyed-words-requires c κs = let passed = c .before in
     let judged = passed .before in
     let a = judged .before .before .before .before .args in (
-      c .before .ascending .ensures,
+      zero-cells,
       numbered-fits (a .fresh) (a .key .now) (length (a .text .now)) (length (a .out .now)) (judged .within-code .ensures) (passed .if1 .left) .0,
     )
 
@@ -43,7 +41,7 @@ words-within-requires : tie.Need-words-within-requires
 words-within-requires c κs = let j = c .before .before in
     let i = j .before .before in
     let made = i .before .before in
-    let passed = made .before .before .before in
+    let passed = made .before .before in
     let judged = passed .before in
     let a = judged .before .before .before .before .args in
     let fits = numbered-fits (a .fresh) (a .key .now) (length (a .text .now)) (length (a .out .now)) (judged .within-code .ensures) (passed .if1 .left) in
@@ -57,7 +55,7 @@ returns-2 c = let ran = c .before .before .before .before in
     let j = ran .before .before .before in
     let i = j .before .before in
     let made = i .before .before in
-    let passed = made .before .before .before in
+    let passed = made .before .before in
     let judged = passed .before in
     let a = judged .before .before .before .before .args in
     let r = ran .words-within .ensures in
@@ -77,7 +75,7 @@ add-octet : tie.Need-add-octet
 add-octet c = let goes = c .before .before in
     let ran = goes .before .before .before .before in
     let i = ran .before .before .before .before .before in
-    let passed = i .before .before .before .before .before in
+    let passed = i .before .before .before .before in
     let judged = passed .before in
     let a = judged .before .before .before .before .args in
     let fits = numbered-fits (a .fresh) (a .key .now) (length (a .text .now)) (length (a .out .now)) (judged .within-code .ensures) (passed .if1 .left) in
@@ -100,7 +98,7 @@ returns-3 c = let last-i = c .before in
     let j = ran .before .before .before in
     let i = j .before .before in
     let made = i .before .before in
-    let passed = made .before .before .before in
+    let passed = made .before .before in
     let judged = passed .before in
     let a = judged .before .before .before .before .args in
     let r = ran .words-within .ensures in
@@ -121,7 +119,6 @@ run-within-spec =
     (tie.spec
     within-code-requires
     returns
-    ascending-requires
     keyed-words-requires
     start-requires
     index-requires
