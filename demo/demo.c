@@ -1,8 +1,8 @@
 /*
  * A pump station logs in at the control room, both work out the link's keys, and readings go over a line that loses one of
- * them and brings another late. Setpoints come back over a stateful modem that loses one, waits, asks and goes on. It shows
- * what a program in C does with the library, what the library does with packets that it must not hand up, and what it cannot
- * see. It compiles as C and as C++.
+ * them and brings another late. Setpoints come back in pieces over a stateful modem that loses one, waits, asks and goes on.
+ * It shows what a program in C does with the library, what the library does with packets that it must not hand up, and what
+ * it cannot see. It compiles as C and as C++.
  */
 #include "udukemb.h"
 
@@ -10,7 +10,8 @@
 #include <stdlib.h>
 #include <string.h>
 
-enum { BITS = 128, READINGS = 6, LOST = 2, HELD_BACK = 3, SETPOINTS = 6, LOST_SETPOINT = 2, LONGEST_TEXT = 64 };
+enum { BITS = 128, READINGS = 6, LOST = 2, HELD_BACK = 3, LONGEST_TEXT = 64 };
+enum { SETPOINTS = 6, LOST_SETPOINT = 2, CUT_SETPOINT = 6, PIECE = 8 };
 enum { LONGEST_PACKET = UDUKEMB_PACKET_FRONT + 2 + LONGEST_TEXT };
 
 /* The user, password and challenges of RFC 2759, section 9.2, the user with a domain in front. The password is UTF-16, low octet first. */
@@ -158,24 +159,22 @@ static size_t seal_text(uint8_t sender[UDUKEMB_LINK_RECORD], const char *text, u
     return UDUKEMB_PACKET_FRONT + 2 + n;
 }
 
-/* Opens a packet and says what came of it, but for the line's end. */
-static struct udukemb_opened say_opened(uint8_t receiver[UDUKEMB_LINK_RECORD], const char *what, const uint8_t *packet, size_t n)
+/* Says what came of a packet of n octets, but for the line's end. */
+static void say_opened(const char *what, struct udukemb_opened opened, const uint8_t *plain, size_t n)
 {
-    uint8_t plain[UDUKEMB_LONGEST_PLAIN];
-    struct udukemb_opened opened = udukemb_open(receiver, UDUKEMB_LINK_RECORD, packet, n, plain, sizeof plain);
-
     if (opened.answer == UDUKEMB_DONE)
         printf("  %s: \"%.*s\"", what, (int)(n - UDUKEMB_PACKET_FRONT - 2), (const char *)plain + 2);
     else
         printf("  %s: refused with %u, %s", what, opened.answer, meaning(opened.answer));
-    return opened;
 }
 
 /* Opens a packet of the stateless link, where the key changes tell how many are missing before it. */
 static void open_packet(uint8_t receiver[UDUKEMB_LINK_RECORD], const char *what, const uint8_t *packet, size_t n)
 {
-    struct udukemb_opened opened = say_opened(receiver, what, packet, n);
+    uint8_t plain[UDUKEMB_LONGEST_PLAIN];
+    struct udukemb_opened opened = udukemb_open(receiver, UDUKEMB_LINK_RECORD, packet, n, plain, sizeof plain);
 
+    say_opened(what, opened, plain, n);
     if (opened.answer == UDUKEMB_DONE)
         printf(" (%u missing before it)", opened.changes - 1u);
     printf("\n");
@@ -261,15 +260,38 @@ static void ask(uint8_t sender[UDUKEMB_LINK_RECORD])
     must("the Reset-Request", udukemb_reset(sender, UDUKEMB_LINK_RECORD, request, sizeof request));
 }
 
-/* Step 4: setpoints come back over a stateful modem. One is lost; those behind it answer 11 until the station has asked for one keyed
-   afresh, which takes the time of two packets here. */
+/* Opens a packet of n octets as the modem hands it over: the octets in front, then pieces of the data, up to where it is cut off. */
+static void open_pieces(uint8_t walk[UDUKEMB_WALK], const char *what, const uint8_t *packet, size_t n, size_t cut)
+{
+    uint8_t plain[UDUKEMB_LONGEST_PLAIN];
+    struct udukemb_opened opened = udukemb_begin(walk, UDUKEMB_WALK, packet, UDUKEMB_PACKET_FRONT, n - UDUKEMB_PACKET_FRONT,
+                                                 sizeof plain);
+
+    for (size_t at = UDUKEMB_PACKET_FRONT; opened.answer == UDUKEMB_DONE && at < cut; at += PIECE) {
+        size_t piece = cut - at;
+
+        if (piece > PIECE)
+            piece = PIECE;
+        opened.answer = udukemb_feed(walk, UDUKEMB_WALK, packet + at, piece, plain, sizeof plain);
+    }
+    if (opened.answer == UDUKEMB_DONE)
+        opened = udukemb_end(walk, UDUKEMB_WALK);
+    say_opened(what, opened, plain, n);
+    printf("\n");
+}
+
+/* Step 4: setpoints come back over a stateful modem, in pieces. One is lost; those behind it answer 11 until the station has asked for one
+   keyed afresh, which takes the time of two packets here. The last one is cut off at first. The station's record stands in front of the
+   walk that the pieces go through. */
 static void run_modem(const uint8_t response[UDUKEMB_NT_RESPONSE])
 {
     static const uint8_t request[UDUKEMB_OPTION] = { 18, 6, 0x00, 0x00, 0x00, 0x40 };
-    uint8_t sender[UDUKEMB_LINK_RECORD], receiver[UDUKEMB_LINK_RECORD], packet[LONGEST_PACKET];
+    uint8_t sender[UDUKEMB_LINK_RECORD], walk[UDUKEMB_WALK], packet[LONGEST_PACKET];
 
-    printf("4. The control room sends setpoints over a stateful modem, which loses number %d\n", LOST_SETPOINT);
-    make_links(response, true, agree(request), sender, receiver);
+    printf("4. The control room sends setpoints over a stateful modem, which loses number %d, and hands the others over in pieces of "
+           "%d octets\n",
+           LOST_SETPOINT, PIECE);
+    make_links(response, true, agree(request), sender, walk);
     for (int i = 1; i <= SETPOINTS; i++) {
         char text[LONGEST_TEXT], label[32];
         size_t n;
@@ -279,12 +301,13 @@ static void run_modem(const uint8_t response[UDUKEMB_NT_RESPONSE])
         if (i == LOST_SETPOINT)
             continue;
         snprintf(label, sizeof label, "packet %d, %s bit A", i, packet[2] & 0x80 ? "with" : "without");
-        say_opened(receiver, label, packet, n);
-        printf("\n");
+        if (i == CUT_SETPOINT)
+            open_pieces(walk, "packet 6, cut off in the middle", packet, n, n / 2);
+        open_pieces(walk, label, packet, n, n);
         if (i == LOST_SETPOINT + 2)
             ask(sender);
     }
-    show_records(sender, receiver);
+    show_records(sender, walk);
 }
 
 /* Step 5: what ties the login to the TLS connection it runs in. */

@@ -8,19 +8,21 @@
  *   - keeps nothing, allocates nothing and has no state of its own, so any thread may make it. What is lent to it must
  *     not be used elsewhere meanwhile.
  *   - answers a number of those below: the first that applies, in the order in which they are named with it, or 0.
- *   - changes no lent octet where it answers another number than 0, but for the record of an open that answers 11. On 0
- *     the result stands in front of the buffer lent for it, and the octets behind it stay as they were.
+ *   - changes no lent octet where it answers another number than 0, but for the record of an open or begin that answers
+ *     11, and for what stands behind the record of a walk that a refused begin, feed or end closes. On 0 the result
+ *     stands in front of the buffer lent for it, and the octets behind it stay as they were; that of a feed stands
+ *     behind what was fed before, which stays too.
  *   - takes a bool that is true or false, and nothing else in its place.
  *
  * Nothing in place: what is lent for writing must not overlap anything else that is lent to the same call. No proof
  * speaks of such a call. Seal a packet over its own plain packet, and today's archive answers 0 and leaves a packet
  * that opens to other octets, or not at all.
  *
- * Time: in stateless mode `udukemb_open` makes as many key changes as the packet's count is ahead of the last one, 1 to
- * 2,048, before it can see whether the protocol number inside is right. So a packet at the farthest distance costs a
- * millisecond or two even if it is then refused with 4, and whoever can put octets on the line can make every packet
- * cost that much. In stateful mode there are at most 8. How long a call takes is not proved, nor that its time keeps a
- * secret.
+ * Time: in stateless mode `udukemb_open` and `udukemb_begin` make as many key changes as the packet's count is ahead of
+ * the last one, 1 to 2,048, before it can be seen whether the protocol number inside is right. So a packet at the
+ * farthest distance costs a millisecond or two even if it is then refused with 4, and whoever can put octets on the
+ * line can make every packet cost that much. In stateful mode there are at most 8. How long a call takes is not proved,
+ * nor that its time keeps a secret.
  *
  * Secrets: what a call works with remains on the stack below its caller's frame, the password's hash, start keys and
  * session keys among it. Nothing wipes it; where others may read that memory later, overwrite it.
@@ -29,9 +31,12 @@
  * memcpy and memset take:
  *       udukemb_authenticator_string    1200
  *       udukemb_base_key                 200
+ *       udukemb_begin                      ?
  *       udukemb_binding_key             1600
  *       udukemb_check_authenticator     1200
  *       udukemb_check_response          2800
+ *       udukemb_end                        ?
+ *       udukemb_feed                       ?
  *       udukemb_new_link                2000
  *       udukemb_nt_response             2800
  *       udukemb_open                    4300
@@ -51,7 +56,7 @@
 
 /* The version of this interface: a new major number may break a program, a new minor one adds to it. */
 #define UDUKEMB_VERSION_MAJOR 3
-#define UDUKEMB_VERSION_MINOR 0
+#define UDUKEMB_VERSION_MINOR 1
 
 /* A call whose answer is not looked at is warned of, where the compiler can. */
 #if defined(__GNUC__)
@@ -67,20 +72,20 @@ extern "C" {
 /* The numbers a call may answer. */
 enum {
     UDUKEMB_DONE = 0,     /* no refusal applies */
-    UDUKEMB_SHAPE = 1,    /* a packet, option or request has a wrong length or fixed field */
-    UDUKEMB_ROOM = 2,     /* the buffer lent for the result is shorter than it */
-    UDUKEMB_SIZE = 3,     /* another length lies outside its limits */
+    UDUKEMB_SHAPE = 1,    /* a packet, option or request has a wrong length or fixed field; or an end comes early */
+    UDUKEMB_ROOM = 2,     /* the buffer for the result is shorter than it */
+    UDUKEMB_SIZE = 3,     /* another length lies outside its limits; or a piece goes beyond the total */
     UDUKEMB_PROTOCOL = 4, /* the plain protocol number is outside 0x0021 to 0x00FA */
     UDUKEMB_FLAGS = 5,    /* bit D of an MPPE header is 0, or in stateless mode bit A */
     UDUKEMB_REPEAT = 6,   /* the count equals the last one */
-    UDUKEMB_RECORD = 7,   /* the octets are no well formed link record */
+    UDUKEMB_RECORD = 7,   /* the octets are no well formed link record, or no walk that is under way */
     UDUKEMB_STRENGTH = 8, /* no strength is both offered and allowed; or the bits are none of 40, 56 and 128 */
     UDUKEMB_DOMAIN = 9,   /* no longer given, and never another refusal's number: a user name held a backslash */
     UDUKEMB_LATE = 10,    /* the count is too far ahead of the last one, as that of a packet that comes late is */
     UDUKEMB_WAITING = 11  /* a stateful link cannot open the packet, and waits for one with bit A */
 };
 
-/* The farthest that a packet's count may be ahead of the last one, modulo 4,096: the most key changes of an open. */
+/* The farthest that a packet's count may be ahead of the last one, modulo 4,096: the most key changes for a packet. */
 enum { UDUKEMB_FARTHEST = 2048 };
 
 /* Lengths in octets. */
@@ -98,6 +103,7 @@ enum {
     UDUKEMB_LONGEST_MATERIAL = 65535,  /* key material of a binding key */
     UDUKEMB_OPTION = 6,
     UDUKEMB_LINK_RECORD = 295,
+    UDUKEMB_WALK = 577,                /* a link record, and behind it what is known of a packet in pieces */
     UDUKEMB_RESET_REQUEST = 4,
     UDUKEMB_SHORTEST_PLAIN = 2,        /* a plain packet: two protocol octets and the payload */
     UDUKEMB_LONGEST_PLAIN = 1498,
@@ -120,7 +126,7 @@ struct udukemb_reply {
     bool stateful; /* the mode picked: stateful, or else stateless */
 };
 
-/* An opened packet's answer. Where it is neither 0 nor 11, `changes` is 0. */
+/* An opened packet's answer. Where it is neither 0 nor 11, `changes` is 0, and so it is where a begin answers 0. */
 struct udukemb_opened {
     uint8_t answer;
     uint16_t changes; /* the key changes made, at most 2,048: stateless, one more than the packets lost just before this
@@ -311,6 +317,67 @@ UDUKEMB_MUST_USE uint8_t udukemb_reset(
 UDUKEMB_MUST_USE uint8_t udukemb_write_reset(
     uint8_t identifier,
     uint8_t *out, size_t out_len);
+
+/*
+ * A packet in pieces. Where a modem hands over a packet piece by piece, a walk opens it as it comes: begin it with the
+ * packet's front, feed the data in pieces of any length, and end it. Where the end answers 0, and each call got walk
+ * and buffer as the last one left them, the buffer, the record and the key changes are those of one `udukemb_open` of
+ * the whole packet, wherever it was cut.
+ *
+ * A walk is 577 octets, and begins with the link record itself. So keep a walk for a link whose packets come in pieces,
+ * and lend its first 295 octets where a record is asked for, as to `udukemb_new_link` or, between two walks, to
+ * `udukemb_open`. Behind the record stand: whether the walk is live (1 octet, 1 or 0), the packet's header (2 octets),
+ * the session key that it is opened with (16 places), RC4's two indices and its 256 cells, the total and the octets fed
+ * so far (2 octets each, highest first), and the first protocol octet, opened (1 octet, 0 but where it is the only one
+ * fed). They need not be set before a begin. A closed or ended walk has zeros there.
+ *
+ * A live walk holds the keys of its packet beside those of the record, so keep it as secret. Leave the record in front
+ * of a live walk alone. A walk that is given up is simply begun anew, or closed by an early end, which leaves no key
+ * behind the record; the record is still that of before the packet, which can be begun once more. Only an end that
+ * answers 0, and a begin that answers 11, move the record and report key changes.
+ */
+
+/*
+ * Begins a walk: `front` is the four octets in front of a packet's data, `total` how many octets the data are, and
+ * `room` how many the buffer has that the plain packet is to go into. What stands behind the record is written anew,
+ * and not read.
+ * Lengths: walk 577, exactly; front 4; total 2 to 1,498.
+ * Answers: 7 record, `walk` is not 577 octets that begin with a well formed record; 1 shape, `front` or the data have
+ * another length, or `front` does not begin with 00 FD; 5 flags, 6 repeat, 10 late, 11 waiting, all as for
+ * `udukemb_open`, and 11 moves the record in the same way; 2 room, `room` is less than `total`. Each of these closes
+ * the walk, but for a 7 where `walk` is not 577 octets, or has no strength, mode or mark in its record: that changes
+ * nothing.
+ */
+UDUKEMB_MUST_USE struct udukemb_opened udukemb_begin(
+    uint8_t *walk, size_t walk_len,
+    const uint8_t *front, size_t front_len,
+    size_t total, size_t room);
+
+/*
+ * Opens the next piece of a walk's packet into `out`, where it has its place behind what was fed before. The buffer is
+ * lent whole, with every piece. Both protocol octets are written together, as soon as the second one is fed and their
+ * number is judged. A piece may be of no octets.
+ * What is written stays, also where a later piece is refused. It is a part of a packet, and no packet before the end
+ * answers 0.
+ * Lengths: walk 577, exactly; piece 0 to as many octets as are left of the total; out at least the total.
+ * Answers: 7 record, `walk` is not 577 octets with a well formed record and a live walk behind it, whose header
+ * `udukemb_begin` would not refuse with that record, and whose total is 2 to 1,498 and no less than what is fed; 2
+ * room, `out` has fewer octets than the total; 3 size, the piece goes beyond the total; 4 protocol, the number inside
+ * is outside 0x0021 to 0x00FA. 3 and 4 close the walk; 7 and 2 change nothing.
+ */
+UDUKEMB_MUST_USE uint8_t udukemb_feed(
+    uint8_t *walk, size_t walk_len,
+    const uint8_t *piece, size_t piece_len,
+    uint8_t *out, size_t out_len);
+
+/*
+ * Ends a walk whose data are fed: writes the next record over that in front of it, and zeros behind it.
+ * Lengths: walk 577, exactly.
+ * Answers: 7 record, as for `udukemb_feed`, or the next record would not be well formed, which only a walk made by hand
+ * can bring about; 1 shape, fewer octets are fed than the total. 1 closes the walk; 7 changes nothing.
+ */
+UDUKEMB_MUST_USE struct udukemb_opened udukemb_end(
+    uint8_t *walk, size_t walk_len);
 
 #ifdef __cplusplus
 }

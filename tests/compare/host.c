@@ -1,6 +1,7 @@
 /* The large comparison of the calls that a C host makes: cases from a seed, answered by the oracle and by the library through
    include/udukemb.h; then whole runs of a link in each mode, with losses, repeats, late packets and damage between sender and receiver
-   (demand 3), and with Reset-Requests (M-103). Arguments: the seed, and how many cases for each call. */
+   (demand 3), with Reset-Requests (M-103), and with packets opened in pieces beside the one call (M-104). Arguments: the seed, and how many
+   cases for each call. */
 #include "guard.h"
 #include "links.h"
 #include "udukemb.h"
@@ -9,10 +10,10 @@
 #include <string.h>
 
 /* Packets sealed in a run; how many may be lost in a row, and how far behind the last arrival a packet is late; one in how many arrivals
-   has a loss behind it, and how many a few are. */
+   has a loss behind it, and how many a few are; one in how many open calls is made in pieces too. */
 enum { SHORT_RUN = 50, LONG_RUN = 3 * COUNTS, PLACED_RUN = 24000, PERIOD = 8000 };
 enum { MOST_LOST = FARTHEST - 1, MOST_BEHIND = COUNTS - FARTHEST - 1 };
-enum { OFTEN = 4, SELDOM = 200, FEW = 5 };
+enum { OFTEN = 4, SELDOM = 200, FEW = 5, WALKED = 8 };
 
 /* An input, and a lent buffer, as two arguments. */
 #define IN(k) l->in[k], t->in[k].n
@@ -352,6 +353,114 @@ static void give_open(const test *t, const loan *l, answer *a)
     gave_opened(a, o.answer, o.changes);
 }
 
+/* Begin: the walk is the first lent buffer, and the packet's front the input. The total and the room are numbers; now and then 2 to the
+   power of 32 is added to one of them or both. */
+static void make_walk_begin(test *t)
+{
+    static const unsigned others[] = {0, 1, SHORTEST_PLAIN, LONGEST_PLAIN, LONGEST_PLAIN + 1, 65535, 65536 + SHORTEST_PLAIN};
+    static octets record, packet;
+
+    make_right_record(&record);
+    make_arriving(&record, &packet);
+    make_walk(&t->lent[0], &record, &packet);
+    if (one_in(4))
+        damage_walked_record(&t->lent[0]);
+    take(&t->in[0], part_of(&packet), about(FRONT));
+    t->x = one_in(6) ? others[below(7)] : (unsigned)data_of(&packet, 0).n;
+    t->y = one_in(20) ? 65536 : (unsigned)room_for(t->x);
+    t->z = one_in(10) ? (unsigned)below(4) : 0;
+    if (t->z > 1)
+        t->y = (unsigned)below(t->x + 1);
+}
+
+/* The total of such a case. */
+static size_t total_of(const test *t)
+{
+    return t->x + ((size_t)(t->z & 1) << 32);
+}
+
+/* Its room. */
+static size_t room_of(const test *t)
+{
+    return t->y + ((size_t)(t->z >> 1) << 32);
+}
+
+/* The walk begun, or closed. */
+static void expect_walk_begin(const test *t, answer *a)
+{
+    opened o = oracle_begin(lent(a, 0), in(t, 0), total_of(t), room_of(t));
+
+    gave_opened(a, o.number, o.changes);
+}
+
+/* The same by the library. */
+static void give_walk_begin(const test *t, const loan *l, answer *a)
+{
+    struct udukemb_opened o = udukemb_begin(OUT(0), IN(0), total_of(t), room_of(t));
+
+    gave_opened(a, o.answer, o.changes);
+}
+
+/* Feed: the walk is the first lent buffer, a piece the input, and the plain packet goes into the second buffer. Now and then a piece goes
+   beyond the total, or what is lent is longer than a number of two octets says. */
+static void make_walk_feed(test *t)
+{
+    static octets left;
+    size_t n;
+
+    make_live_walk(&t->lent[0], &left);
+    n = left.n;
+    if (one_in(2))
+        damage_walk(&t->lent[0]);
+    fill(&t->in[0], one_in(12) ? n + 1 + below(3) : one_in(40) ? MOST - below(3) : make_cut(n));
+    memcpy(t->in[0].at, left.at, t->in[0].n < n ? t->in[0].n : n);
+    make_room(&t->lent[1], 256u * t->lent[0].at[AT_TOTAL] + t->lent[0].at[AT_TOTAL + 1]);
+    if (one_in(20))
+        fill(&t->lent[1], MOST);
+}
+
+/* The octets opened, and the walk. */
+static void expect_walk_feed(const test *t, answer *a)
+{
+    a->number = oracle_feed(lent(a, 0), in(t, 0), lent(a, 1));
+}
+
+/* The same by the library. */
+static void give_walk_feed(const test *t, const loan *l, answer *a)
+{
+    a->number = udukemb_feed(OUT(0), IN(0), OUT(1));
+}
+
+/* End: the walk is the first lent buffer, mostly fed to its total. */
+static void make_walk_end(test *t)
+{
+    static octets left, out;
+
+    make_live_walk(&t->lent[0], &left);
+    fill(&out, LONGEST_PLAIN);
+    if (!one_in(3))
+        oracle_feed(whole(&t->lent[0]), part_of(&left), whole(&out));
+    if (one_in(2))
+        damage_walk(&t->lent[0]);
+}
+
+/* The next record, the walk and the changes. */
+static void expect_walk_end(const test *t, answer *a)
+{
+    opened o = oracle_end(lent(a, 0));
+
+    (void)t;
+    gave_opened(a, o.number, o.changes);
+}
+
+/* The same by the library. */
+static void give_walk_end(const test *t, const loan *l, answer *a)
+{
+    struct udukemb_opened o = udukemb_end(OUT(0));
+
+    gave_opened(a, o.answer, o.changes);
+}
+
 /* A Reset-Request taken: the record is the first lent buffer. */
 static void make_taken(test *t)
 {
@@ -379,7 +488,7 @@ static void give_write_reset(const test *t, const loan *l, answer *a)
 
 enum {
     CHECK_RESPONSE, RESPONSE, STRING, CHECK_AUTHENTICATOR, START_KEY, MAKE_BASE_KEY, MAKE_BINDING_KEY, OPTION_REPLY, NEW_LINK, SEAL, OPEN,
-    RESET, WRITE_RESET
+    BEGIN, FEED, END, RESET, WRITE_RESET, CALLS
 };
 
 static const call calls[] = {
@@ -394,14 +503,23 @@ static const call calls[] = {
     {"udukemb_new_link", NEW_LINK, make_new_link, expect_new_link},
     {"udukemb_seal", SEAL, make_seal, expect_seal},
     {"udukemb_open", OPEN, make_open, expect_open},
+    {"udukemb_begin", BEGIN, make_walk_begin, expect_walk_begin},
+    {"udukemb_feed", FEED, make_walk_feed, expect_walk_feed},
+    {"udukemb_end", END, make_walk_end, expect_walk_end},
     {"udukemb_reset", RESET, make_taken, expect_taken},
     {"udukemb_write_reset", WRITE_RESET, make_write_reset, expect_write_reset},
 };
 
 static const call seal_in_run = {"udukemb_seal in a run", SEAL, make_seal, expect_seal};
 static const call open_in_run = {"udukemb_open in a run", OPEN, make_open, expect_open};
+static const call begin_in_run = {"udukemb_begin in a run", BEGIN, make_walk_begin, expect_walk_begin};
+static const call feed_in_run = {"udukemb_feed in a run", FEED, make_walk_feed, expect_walk_feed};
+static const call end_in_run = {"udukemb_end in a run", END, make_walk_end, expect_walk_end};
 static const call reset_in_run = {"udukemb_reset in a run", RESET, make_taken, expect_taken};
 static const call write_reset_in_run = {"udukemb_write_reset in a run", WRITE_RESET, make_write_reset, expect_write_reset};
+
+/* How often each call gave each number, in cases and in runs. */
+static unsigned long came[CALLS][UINT8_MAX + 1];
 
 /* The library's answer to a case whose parts are lent between guards. */
 void give(const test *t, answer *a)
@@ -418,6 +536,9 @@ void give(const test *t, answer *a)
         [NEW_LINK] = give_new_link,
         [SEAL] = give_seal,
         [OPEN] = give_open,
+        [BEGIN] = give_walk_begin,
+        [FEED] = give_walk_feed,
+        [END] = give_walk_end,
         [RESET] = give_taken,
         [WRITE_RESET] = give_write_reset,
     };
@@ -425,6 +546,7 @@ void give(const test *t, answer *a)
 
     gives[t->call](t, &l, a);
     take_back(t, a);
+    came[t->call][a->number]++;
 }
 
 /* A run of a link: both ends' records, the packet sealed last with its plain packet, one that the line holds back, a Reset-Request under
@@ -434,13 +556,20 @@ static struct {
     octets sender, receiver, packet, plain, held, request;
     unsigned lost, changes, behind;
     bool in_step;
-    unsigned long seed, calls, opened, waited, late, resets;
+    unsigned long seed, calls, opened, walked, waited, late, resets;
 } run;
+
+/* A packet opened in pieces beside the one call: the walk, the buffer, and what came of it. */
+static struct {
+    octets walk, out;
+    int number;
+    unsigned changes;
+} pieces;
 
 static test t;
 static answer expected, given;
 
-/* Ends the program where a run does not go as demand 3 and M-103 say. */
+/* Ends the program where a run does not go as demand 3, M-103 and M-104 say. */
 static void demand(bool held, const char *what)
 {
     if (held)
@@ -449,14 +578,30 @@ static void demand(bool held, const char *what)
     exit(1);
 }
 
-/* One call of a run, compared; its record, or what else is lent to it first, is handed back. */
-static void step(const call *c, octets *record, const octets *input, size_t room)
+/* One call of a run, compared; its record, or what else is lent to it first, is handed back, and so is the buffer. */
+static void step_into(const call *c, octets *record, const octets *input, octets *out)
 {
     copy(&t.lent[0], record);
     copy(&t.in[0], input);
-    fill(&t.lent[1], room);
+    copy(&t.lent[1], out);
     compare_case(c, &t, run.seed, run.calls++, &expected, &given);
     copy(record, &given.lent[0]);
+    copy(out, &given.lent[1]);
+}
+
+/* The same with a buffer of its own. */
+static void step(const call *c, octets *record, const octets *input, size_t room)
+{
+    static octets out;
+
+    fill(&out, room);
+    step_into(c, record, input, &out);
+}
+
+/* The key changes that the last call reports; none where it is a feed. */
+static unsigned reported(void)
+{
+    return given.fields.n == 0 ? 0 : 256u * given.fields.at[0] + given.fields.at[1];
 }
 
 /* Seal calls until one is not refused; its packet is kept. It has bit A exactly if it brings a key change or the sender's mark was set. */
@@ -477,13 +622,164 @@ static void seal_next(void)
     run.behind++;
 }
 
+/* One call on the walk: "Only a good end or a begin that answers 11 moves the link record or reports changes." */
+static void walk_step(const call *c, const octets *input)
+{
+    size_t n = pieces.walk.n < RECORD_OCTETS ? pieces.walk.n : RECORD_OCTETS;
+
+    step_into(c, &pieces.walk, input, &pieces.out);
+    if (given.number == WAITING || (given.number == DONE && c == &end_in_run))
+        return;
+    demand(memcmp(pieces.walk.at, t.lent[0].at, n) == 0, "a call in pieces moves the record before its end");
+    demand(reported() == 0, "a call in pieces reports key changes before its end");
+}
+
+/* Begins the walk with a packet. */
+static void begin_walk(const octets *packet)
+{
+    static octets front;
+
+    take(&front, front_of(packet), FRONT);
+    t.x = (unsigned)data_of(packet, 0).n;
+    t.y = (unsigned)pieces.out.n;
+    t.z = 0;
+    walk_step(&begin_in_run, &front);
+}
+
+/* Feeds a piece, now and then with too little room before it. */
+static void feed_walk(const octets *piece, size_t total)
+{
+    size_t room = pieces.out.n;
+
+    if (one_in(8)) {
+        pieces.out.n = below(total);
+        walk_step(&feed_in_run, piece);
+        demand(given.number == ROOM, "a piece is fed into too little room");
+        pieces.out.n = room;
+    }
+    walk_step(&feed_in_run, piece);
+}
+
+/* Feeds the first octets of a packet's data in pieces, until one is refused. */
+static void feed_up_to(const octets *packet, size_t n)
+{
+    static octets piece;
+    size_t fed = 0;
+
+    do {
+        take(&piece, data_of(packet, fed), make_cut(n - fed));
+        feed_walk(&piece, data_of(packet, 0).n);
+        fed += piece.n;
+    } while (given.number == DONE && (fed < n || one_in(8)));
+}
+
+/* A walk that is closed or ended holds nothing, and every further call on it is 7. */
+static void over(void)
+{
+    static const octet nothing[WALK_OCTETS - RECORD_OCTETS];
+    static octets piece;
+
+    demand(memcmp(pieces.walk.at + RECORD_OCTETS, nothing, sizeof nothing) == 0, "a walk that is over holds something");
+    fill(&piece, below(3));
+    walk_step(&feed_in_run, &piece);
+    demand(given.number == RECORD, "a piece is fed to a walk that is over");
+    walk_step(&end_in_run, &piece);
+    demand(given.number == RECORD, "a walk that is over ends");
+}
+
+/* The receiver's record in front of what the last walk left. */
+static void set_record(void)
+{
+    pieces.walk.n = WALK_OCTETS;
+    memcpy(pieces.walk.at, run.receiver.at, RECORD_OCTETS);
+}
+
+/* A walk that is given up: ended too early, fed beyond its total, or left as it is; if a protocol number has not closed it. */
+static void give_up(const octets *packet)
+{
+    static octets piece;
+    size_t total = data_of(packet, 0).n, fed = make_cut(total - 1);
+
+    feed_up_to(packet, fed);
+    if (given.number == DONE) {
+        if (one_in(3))
+            return;
+        fill(&piece, one_in(8) ? MOST - fed : total - fed + 1 + below(3));
+        if (one_in(2)) {
+            walk_step(&end_in_run, &piece);
+            demand(given.number == SHAPE, "a walk ends before its total");
+        } else {
+            walk_step(&feed_in_run, &piece);
+            demand(given.number == SIZE, "a piece beyond the total is fed");
+        }
+    }
+    over();
+}
+
+/* Now and then a walk that comes to nothing: begun with a damaged record, or given up. */
+static void spoil(const octets *packet, size_t room)
+{
+    if (!one_in(4))
+        return;
+    fill(&pieces.out, room);
+    set_record();
+    if (one_in(4))
+        damage_walked_record(&pieces.walk);
+    begin_walk(packet);
+    if (given.number == DONE)
+        give_up(packet);
+}
+
+/* A packet in pieces, from the receiver's record on. */
+static void walk_packet(const octets *packet, const octets *out)
+{
+    copy(&pieces.out, out);
+    set_record();
+    begin_walk(packet);
+    if (given.number == DONE)
+        feed_up_to(packet, data_of(packet, 0).n);
+    if (given.number == DONE) {
+        walk_step(&end_in_run, packet);
+        run.walked++;
+    }
+    pieces.number = given.number;
+    pieces.changes = reported();
+    if (one_in(4))
+        over();
+}
+
+/* What came of it is what the one call gave: answer, report, buffer and record. */
+static void as_one_call(void)
+{
+    demand(pieces.number == given.number, "a packet in pieces has another answer than in one call");
+    demand(pieces.changes == reported(), "a packet in pieces reports other key changes than in one call");
+    demand(memcmp(pieces.out.at, given.lent[1].at, pieces.out.n) == 0, "a packet in pieces opens to other octets than in one call");
+    demand(memcmp(pieces.walk.at, run.receiver.at, RECORD_OCTETS) == 0, "a packet in pieces leaves another record than in one call");
+}
+
+/* A call of open at the receiver; now and then the same packet in pieces before it. */
+static void open_call(const octets *packet, size_t room)
+{
+    static octets out;
+    bool walked = one_in(WALKED);
+
+    fill(&out, room);
+    if (walked) {
+        spoil(packet, room);
+        walk_packet(packet, &out);
+    }
+    step_into(&open_in_run, &run.receiver, packet, &out);
+    if (walked)
+        as_one_call();
+}
+
 /* A call of open that must leave the record as it was. */
 static void refuse(const octets *packet, size_t room)
 {
     static octets record;
 
     copy(&record, &run.receiver);
-    step(&open_in_run, &run.receiver, packet, room);
+    open_call(packet, room);
     demand(memcmp(record.at, run.receiver.at, RECORD_OCTETS) == 0, "a refused call changes the record");
 }
 
@@ -501,7 +797,7 @@ static void refused_open(void)
     fill(&out, room);
     if (!one_in(4))
         damage_arriving(&run.receiver, &packet);
-    distance = oracle_distance(record.at, part_of(&packet));
+    distance = oracle_distance(record.at, packet.at + 2);
     if (distance > 100 && distance <= FARTHEST && !one_in(50))
         return;
     number = oracle_open(whole(&record), part_of(&packet), whole(&out)).number;
@@ -544,8 +840,8 @@ static void waits(void)
 static void arrive(void)
 {
     run.in_step = run.in_step || (run.packet.at[2] & BIT_A) != 0;
-    step(&open_in_run, &run.receiver, &run.packet, run.plain.n + below(3));
-    demand(256u * given.fields.at[0] + given.fields.at[1] == run.changes, "other key changes than the packets sealed bring");
+    open_call(&run.packet, run.plain.n + below(3));
+    demand(reported() == run.changes, "other key changes than the packets sealed bring");
     if (run.in_step)
         opened_as_sealed();
     else
@@ -688,9 +984,37 @@ static unsigned long compare_runs(unsigned long seed, unsigned long packets, boo
         begin(strength_bits(k), stateful);
         run_placed();
     }
-    printf("runs of a %s link: %lu calls, all equal; %lu packets opened, %lu answered 11, %lu that came late, %lu Reset-Requests taken\n",
-           stateful ? "stateful" : "stateless", run.calls, run.opened, run.waited, run.late, run.resets);
+    printf("runs of a %s link: %lu calls, all equal; %lu packets opened, %lu in pieces too, %lu answered 11, %lu that came late, "
+           "%lu Reset-Requests taken\n",
+           stateful ? "stateful" : "stateless", run.calls, run.opened, run.walked, run.waited, run.late, run.resets);
     return run.calls;
+}
+
+/* Prints how often the calls for a packet in pieces gave each number that they can give; ends the program where one never came. */
+static void every_number_came(void)
+{
+    static const struct {
+        const char *name;
+        int call, numbers[NUMBERS];
+    } can[] = {
+        {"udukemb_begin", BEGIN, {RECORD, SHAPE, FLAGS, REPEAT, LATE, WAITING, ROOM, DONE}},
+        {"udukemb_feed", FEED, {RECORD, ROOM, SIZE, PROTOCOL, DONE}},
+        {"udukemb_end", END, {RECORD, SHAPE, DONE}},
+    };
+
+    for (size_t k = 0; k < sizeof can / sizeof can[0]; k++) {
+        const int *number = can[k].numbers;
+
+        printf("%s, in cases and runs: answered", can[k].name);
+        do {
+            printf(" %d (%lu)", *number, came[can[k].call][*number]);
+            if (came[can[k].call][*number] == 0) {
+                printf(": never\n");
+                exit(1);
+            }
+        } while (*number++ != DONE);
+        printf("\n");
+    }
 }
 
 /* Compares every call, then runs of a link in each mode. */
@@ -705,6 +1029,7 @@ int main(int count, char **words)
     total = compare_calls(calls, sizeof calls / sizeof calls[0], seed, cases);
     total += compare_runs(seed, cases, false);
     total += compare_runs(seed, cases, true);
+    every_number_came();
     printf("%lu calls of the C host, all equal\n", total);
     return 0;
 }

@@ -25,17 +25,29 @@ part part_of(const octets *o)
     return p;
 }
 
+/* Writes a number of two octets, the highest first. */
+static void put_number(octet *at, size_t number)
+{
+    at[0] = (octet)(number / 256);
+    at[1] = (octet)(number % 256);
+}
+
+/* Reads one. */
+static unsigned number_at(const octet *at)
+{
+    return 256u * at[0] + at[1];
+}
+
 /* Sets a record's count. */
 static void set_count(octets *record, size_t count)
 {
-    record->at[AT_COUNT] = (octet)(count / 256);
-    record->at[AT_COUNT + 1] = (octet)(count % 256);
+    put_number(record->at + AT_COUNT, count);
 }
 
 /* A record's count. */
 static unsigned count_of(const octets *record)
 {
-    return 256u * record->at[AT_COUNT] + record->at[AT_COUNT + 1];
+    return number_at(record->at + AT_COUNT);
 }
 
 /* Stateless, one with each packet; stateful, one with a count that ends in 0xFF. */
@@ -62,13 +74,13 @@ static size_t make_count(void)
     return one_in(2) ? (256 * below(16) + CHANGE - 3 + below(6)) % COUNTS : below(COUNTS);
 }
 
-/* Exchanges two cells of a record's box. */
-static void exchange(octets *record, size_t a, size_t b)
+/* Exchanges two cells of a box. */
+static void exchange(octet *cells, size_t a, size_t b)
 {
-    octet cell = record->at[AT_CELLS + a];
+    octet cell = cells[a];
 
-    record->at[AT_CELLS + a] = record->at[AT_CELLS + b];
-    record->at[AT_CELLS + b] = cell;
+    cells[a] = cells[b];
+    cells[b] = cell;
 }
 
 /* A stateful record's box and mark: keyed with the session key and drawn on, or in any order with any indices; waiting or not. */
@@ -84,7 +96,7 @@ static void make_box(octets *record)
     memcpy(record->at + AT_INDICES, state + CELLS, 2);
     if (one_in(2)) {
         for (size_t k = CELLS; k > 1; k--)
-            exchange(record, k - 1, below(k));
+            exchange(record->at + AT_CELLS, k - 1, below(k));
         record->at[AT_INDICES] = (octet)below(256);
         record->at[AT_INDICES + 1] = (octet)below(256);
     }
@@ -144,11 +156,28 @@ static void damage_front(octets *record)
     }
 }
 
-/* One damage to what stands behind it: mode or mark the other one, or neither; an index; a cell that is there twice; two exchanged. */
+/* One damage to RC4's state, both indices and the cells behind them: an index; a cell that is there twice; two exchanged. */
+static void damage_state(octet *state)
+{
+    octet *cells = state + 2;
+    size_t a = below(CELLS), b = below(CELLS);
+
+    switch (below(3)) {
+    case 0:
+        state[below(2)] = (octet)below(256);
+        break;
+    case 1:
+        cells[a] = cells[b];
+        break;
+    default:
+        exchange(cells, a, b);
+    }
+}
+
+/* One damage to what stands behind a record's front: mode or mark the other one, or neither; or RC4's state. */
 static void damage_rest(octets *record)
 {
     octet *choice = record->at + (one_in(2) ? AT_MODE : AT_MARK);
-    size_t a = below(CELLS), b = below(CELLS);
 
     switch (below(5)) {
     case 0:
@@ -157,14 +186,8 @@ static void damage_rest(octets *record)
     case 1:
         *choice = (octet)(one_in(2) ? 2 : below(256));
         break;
-    case 2:
-        record->at[AT_INDICES + below(2)] = (octet)below(256);
-        break;
-    case 3:
-        record->at[AT_CELLS + a] = record->at[AT_CELLS + b];
-        break;
     default:
-        exchange(record, a, b);
+        damage_state(record->at + AT_INDICES);
     }
 }
 
@@ -272,6 +295,149 @@ void make_arriving(const octets *record, octets *packet)
         packet->at[2] ^= BIT_A;
     for (bool more = one_in(2); more && packet->n > FRONT + 2; more = one_in(3))
         damage_arriving(record, packet);
+}
+
+/* None, one or two of n octets, all or all but one of them, or any. */
+size_t make_cut(size_t n)
+{
+    size_t cut = one_in(2) ? below(3) : one_in(2) && n > 0 ? n - below(2) : below(n + 1);
+
+    return cut < n ? cut : n;
+}
+
+/* The octets in front of a packet's data; fewer where it has no data. */
+part front_of(const octets *packet)
+{
+    part p = {packet->at, packet->n < FRONT ? packet->n : FRONT};
+
+    return p;
+}
+
+/* A packet's data, from an octet of them on. */
+part data_of(const octets *packet, size_t from)
+{
+    size_t n = front_of(packet).n + from;
+    part p = {packet->at + n, packet->n - n};
+
+    return p;
+}
+
+/* Octets of a part, up to n. */
+void take(octets *to, part from, size_t n)
+{
+    to->n = n < from.n ? n : from.n;
+    memcpy(to->at, from.at, to->n);
+}
+
+/* A walk begun with a packet. */
+static int begin_walk(octets *walk, const octets *packet)
+{
+    size_t total = data_of(packet, 0).n;
+
+    return oracle_begin(whole(walk), front_of(packet), total, total).number;
+}
+
+/* A record with any octets behind it, or with those of a walk begun with a packet before. */
+void make_walk(octets *walk, const octets *record, const octets *packet)
+{
+    fill(walk, WALK_OCTETS);
+    memcpy(walk->at, record->at, RECORD_OCTETS);
+    if (one_in(3))
+        begin_walk(walk, packet);
+}
+
+/* A walk that is begun and fed some of a packet's data, often with another protocol number, and what is left of these. Now and then it is
+   closed. */
+void make_live_walk(octets *walk, octets *left)
+{
+    static octets record, packet, piece, out;
+    size_t total;
+
+    do {
+        make_right_record(&record);
+        make_arriving(&record, &packet);
+        make_walk(walk, &record, &packet);
+    } while (begin_walk(walk, &packet) != DONE && !one_in(20));
+    if (one_in(4))
+        packet.at[FRONT + below(2)] ^= (octet)(1 << below(8));
+    total = data_of(&packet, 0).n;
+    take(&piece, data_of(&packet, 0), make_cut(total));
+    fill(&out, total);
+    oracle_feed(whole(walk), part_of(&piece), whole(&out));
+    take(left, data_of(&packet, piece.n), total);
+}
+
+/* One damage to the record in front of a walk, or to the walk's length. */
+void damage_walked_record(octets *walk)
+{
+    static const size_t others[] = {RECORD_OCTETS, WALK_OCTETS - 1, WALK_OCTETS + 1, MOST};
+    static octets record;
+
+    take(&record, part_of(walk), RECORD_OCTETS);
+    damage_record(&record);
+    memcpy(walk->at, record.at, RECORD_OCTETS);
+    if (record.n != RECORD_OCTETS)
+        walk->n = one_in(2) ? record.n : others[below(4)];
+}
+
+/* One damage to a walk's header: a flag, its count that of the record, or any. */
+static void damage_header(octets *walk)
+{
+    octet *header = walk->at + AT_HEADER;
+
+    switch (below(4)) {
+    case 0:
+        header[0] ^= (octet)(0x10 << below(4));
+        break;
+    case 1:
+        put_number(header, (header[0] & 0xF0) * 256u + count_of(walk) % COUNTS);
+        break;
+    default:
+        put_number(header, (header[0] & 0xF0) * 256u + below(COUNTS));
+    }
+}
+
+/* A number beside another one, beside a limit, or any. */
+static size_t make_beside(size_t number)
+{
+    static const size_t limits[] = {0, SHORTEST_PLAIN - 1, SHORTEST_PLAIN, LONGEST_PLAIN, LONGEST_PLAIN + 1, 65535};
+
+    return one_in(2) ? (number + 65535 + below(3)) % 65536 : one_in(8) ? below(65536) : limits[below(6)];
+}
+
+/* One damage to a walk: to its record, or to a field behind that. */
+void damage_walk(octets *walk)
+{
+    octet *next = walk->at + AT_NEXT, *total = walk->at + AT_TOTAL, *fed = walk->at + AT_FED;
+
+    switch (below(9)) {
+    case 0:
+        walk->at[AT_LIVE] = (octet)(one_in(4) ? below(256) : below(3));
+        break;
+    case 1:
+        damage_header(walk);
+        break;
+    case 2:
+        next[below(3)] ^= (octet)(1 << below(8));
+        break;
+    case 3:
+        next[8 + below(8)] = (octet)below(3);
+        break;
+    case 4:
+        damage_state(walk->at + AT_DRAWN);
+        break;
+    case 5:
+        put_number(total, make_beside(number_at(fed)));
+        break;
+    case 6:
+        put_number(fed, make_beside(number_at(total)));
+        break;
+    case 7:
+        walk->at[AT_FIRST] = (octet)below(256);
+        break;
+    default:
+        damage_walked_record(walk);
+    }
 }
 
 /* An identifier and room. */

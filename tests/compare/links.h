@@ -8,6 +8,9 @@
 enum { AT_START = 1, AT_SESSION = 17, AT_COUNT = 33, AT_MODE = 35, AT_MARK = 36, AT_INDICES = 37, AT_CELLS = 39 };
 enum { CELLS = 256 };
 
+/* The places of a walk's fields behind its record. */
+enum { AT_LIVE = RECORD_OCTETS, AT_HEADER = 296, AT_NEXT = 298, AT_DRAWN = 314, AT_TOTAL = 572, AT_FED = 574, AT_FIRST = 576 };
+
 /* The bit of a packet's third octet that says that RC4 is keyed afresh, and the lowest octet of the counts that change a stateful key. */
 enum { BIT_A = 0x80, CHANGE = 0xFF };
 
@@ -31,6 +34,19 @@ void make_record(octets *record);
 void make_plain(octets *plain);
 void make_arriving(const octets *record, octets *packet);
 void damage_arriving(const octets *record, octets *packet);
+
+/* How many of n octets are fed next; a packet's front, and its data from an octet of it on; octets of a part, up to n. */
+size_t make_cut(size_t n);
+part front_of(const octets *packet);
+part data_of(const octets *packet, size_t from);
+void take(octets *to, part from, size_t n);
+
+/* A walk before it is begun with a packet; one that is under way, and the data left for it; one damage to its record or length, and one to
+   any field. */
+void make_walk(octets *walk, const octets *record, const octets *packet);
+void make_live_walk(octets *walk, octets *left);
+void damage_walked_record(octets *walk);
+void damage_walk(octets *walk);
 
 /* The case of a Reset-Request that is written, and what the oracle expects. */
 void make_write_reset(test *t);

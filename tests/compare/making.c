@@ -133,13 +133,17 @@ void make_key(octets *o, unsigned bits)
 }
 
 /* Mostly exact or more; one in six too little. */
+size_t room_for(size_t n)
+{
+    if (one_in(6))
+        return one_in(3) || n == 0 ? 0 : one_in(2) ? n - 1 : below(n);
+    return one_in(4) ? n + below(40) : n;
+}
+
+/* A buffer of such a length. */
 void make_room(octets *o, size_t n)
 {
-    size_t room = one_in(4) ? n + below(40) : n;
-
-    if (one_in(6))
-        room = one_in(3) || n == 0 ? 0 : one_in(2) ? n - 1 : below(n);
-    fill(o, room);
+    fill(o, room_for(n));
 }
 
 /* Mostly of the right type, length and bits, with any octets from some place on. */

@@ -72,7 +72,8 @@ void make_name(octets *o);
 void make_text(octets *o);
 void make_key(octets *o, unsigned bits);
 
-/* A lent buffer around the room that a result of n octets needs: exact, one less, more, none. */
+/* A length around the room that a result of n octets needs: exact, one less, more, none; a lent buffer of such a length. */
+size_t room_for(size_t n);
 void make_room(octets *o, size_t n);
 
 /* An option, and a Reset-Request, often damaged. */

@@ -11,8 +11,9 @@
 
 enum { SHA1_OCTETS = 20, BIT_A = 0x80, BIT_D = 0x10, LOWEST_PROTOCOL = 0x21, HIGHEST_PROTOCOL = 0xFA };
 
-/* The places of a record's fields. */
-enum { AT_START = 1, AT_SESSION = 17, AT_COUNT = 33, AT_MODE = 35, AT_MARK = 36, AT_INDICES = 37, AT_CELLS = 39 };
+/* The places of a record's fields, and of a walk's behind them; RC4's state is both indices and then the cells. */
+enum { AT_START = 1, AT_SESSION = 17, AT_COUNT = 33, AT_MODE = 35, AT_MARK = 36, AT_STATE = 37 };
+enum { AT_LIVE = RECORD_OCTETS, AT_HEADER = 296, AT_NEXT = 298, AT_DRAWN = 314, AT_TOTAL = 572, AT_FED = 574, AT_FIRST = 576 };
 
 /* Ends the program where OpenSSL does not do what it is asked. */
 static void need(bool held)
@@ -637,10 +638,23 @@ static bool is_strength(octet bits)
     return bits == 40 || bits == 56 || bits == 128;
 }
 
+/* A number of two octets, the highest first. */
+static unsigned number_at(const octet *at)
+{
+    return 256u * at[0] + at[1];
+}
+
+/* Writes one. */
+static void put_number(octet *at, unsigned number)
+{
+    at[0] = (octet)(number / 256);
+    at[1] = (octet)(number % 256);
+}
+
 /* A record's last count. */
 static unsigned last_count(const octet *record)
 {
-    return 256u * record[AT_COUNT] + record[AT_COUNT + 1];
+    return number_at(record + AT_COUNT);
 }
 
 /* Whether the places of a key behind its octets are zeros. */
@@ -658,27 +672,36 @@ static bool is_stateful(const octet *record)
     return record[AT_MODE] == 1;
 }
 
-/* The RC4 state in a record, which has both indices in front of the cells. */
-static void state_of(const octet *record, octet state[RC4_STATE])
+/* The RC4 state in a record or a walk, which have both indices in front of the cells. */
+static void state_at(const octet *at, octet state[RC4_STATE])
 {
-    memcpy(state, record + AT_CELLS, 256);
-    memcpy(state + 256, record + AT_INDICES, 2);
+    memcpy(state, at + 2, 256);
+    memcpy(state + 256, at, 2);
 }
 
-/* A record's RC4 state. */
-static void put_state(octet *record, const octet state[RC4_STATE])
+/* Writes it there. */
+static void put_state(octet *at, const octet state[RC4_STATE])
 {
-    memcpy(record + AT_CELLS, state, 256);
-    memcpy(record + AT_INDICES, state + 256, 2);
+    memcpy(at + 2, state, 256);
+    memcpy(at, state + 256, 2);
 }
 
 /* "In stateless mode 0 to 255 in order, indices 0, mark off" */
 static bool at_rest(const octet *record)
 {
+    octet state[RC4_STATE];
+
+    state_at(record + AT_STATE, state);
     for (unsigned k = 0; k < 256; k++)
-        if (record[AT_CELLS + k] != k)
+        if (state[k] != k)
             return false;
-    return record[AT_INDICES] == 0 && record[AT_INDICES + 1] == 0 && record[AT_MARK] == 0;
+    return state[256] == 0 && state[257] == 0 && record[AT_MARK] == 0;
+}
+
+/* Whether octets can be read as a record: a strength, a mode and a mark. */
+static bool readable(const octet *record)
+{
+    return is_strength(record[0]) && record[AT_MODE] <= 1 && record[AT_MARK] <= 1;
 }
 
 /* Whether octets are a well formed record. */
@@ -688,11 +711,9 @@ static bool well_formed(buffer record)
     part front;
     size_t n;
 
-    if (record.n != RECORD_OCTETS || !is_strength(record.at[0]) || last_count(record.at) >= COUNTS)
+    if (record.n != RECORD_OCTETS || !readable(record.at) || last_count(record.at) >= COUNTS)
         return false;
-    if (record.at[AT_MODE] > 1 || record.at[AT_MARK] > 1)
-        return false;
-    state_of(record.at, state);
+    state_at(record.at + AT_STATE, state);
     if (is_stateful(record.at) ? !oracle_rc4_permutation(state) : !at_rest(record.at))
         return false;
     n = key_length(record.at[0]);
@@ -709,8 +730,7 @@ static void renew(octet *record, unsigned changes, unsigned count, octet state[R
 
     oracle_key_changes(record[0], of(record + AT_START, n), of(record + AT_SESSION, n), changes, key);
     memcpy(record + AT_SESSION, key, KEY_PLACES);
-    record[AT_COUNT] = (octet)(count / 256);
-    record[AT_COUNT + 1] = (octet)(count % 256);
+    put_number(record + AT_COUNT, count);
     if (changes != 0)
         oracle_rc4_keyed(of(key, n), state);
 }
@@ -725,8 +745,14 @@ static void key_afresh(const octet *record, octet state[RC4_STATE])
 static void settle(octet *record, const octet state[RC4_STATE])
 {
     if (is_stateful(record))
-        put_state(record, state);
+        put_state(record + AT_STATE, state);
     record[AT_MARK] = 0;
+}
+
+/* Whether a plain packet, or a sealed one's data part, has a length that is carried. */
+static bool is_carried(size_t n)
+{
+    return n >= SHORTEST_PLAIN && n <= LONGEST_PLAIN;
 }
 
 /* Whether a packet's first two octets are no protocol number that is carried. */
@@ -750,11 +776,10 @@ int oracle_new_link(octet bits, bool stateful, part start, buffer record)
     record.at[0] = bits;
     put(record.at + AT_START, start);
     memcpy(record.at + AT_SESSION, session, KEY_PLACES);
-    record.at[AT_COUNT] = (COUNTS - 1) / 256;
-    record.at[AT_COUNT + 1] = (COUNTS - 1) % 256;
+    put_number(record.at + AT_COUNT, COUNTS - 1);
     record.at[AT_MODE] = record.at[AT_MARK] = stateful;
     for (unsigned k = 0; k < 256; k++)
-        record.at[AT_CELLS + k] = (octet)k;
+        record.at[AT_STATE + 2 + k] = (octet)k;
     return DONE;
 }
 
@@ -768,7 +793,7 @@ int oracle_seal(buffer record, part plain, buffer out)
 
     if (!well_formed(record))
         return RECORD;
-    if (plain.n < SHORTEST_PLAIN || plain.n > LONGEST_PLAIN)
+    if (!is_carried(plain.n))
         return SIZE;
     if (off_protocol(plain.at))
         return PROTOCOL;
@@ -777,7 +802,7 @@ int oracle_seal(buffer record, part plain, buffer out)
     count = (last_count(record.at) + 1) % COUNTS;
     change = !is_stateful(record.at) || count % 256 == 0xFF;
     fresh = change || record.at[AT_MARK] == 1;
-    state_of(record.at, state);
+    state_at(record.at + AT_STATE, state);
     renew(record.at, change, count, state);
     if (fresh)
         key_afresh(record.at, state);
@@ -790,46 +815,53 @@ int oracle_seal(buffer record, part plain, buffer out)
     return DONE;
 }
 
-/* The count that a packet carries. */
-static unsigned arrived_count(part packet)
+/* The count in a packet's two header octets. */
+static unsigned arrived_count(const octet header[2])
 {
-    return 256u * (packet.at[2] % 16) + packet.at[3];
+    return number_at(header) % COUNTS;
 }
 
 /* "distance = (arrived count - last count) mod 4,096" */
-unsigned oracle_distance(const octet *record, part packet)
+unsigned oracle_distance(const octet *record, const octet header[2])
 {
-    return (arrived_count(packet) + COUNTS - last_count(record)) % COUNTS;
+    return (arrived_count(header) + COUNTS - last_count(record)) % COUNTS;
 }
 
 /* Whether there is a box to open with. */
-static bool can_open(const octet *record, part packet)
+static bool can_open(const octet *record, const octet header[2])
 {
-    return (packet.at[2] & BIT_A) != 0 || (oracle_distance(record, packet) == 1 && record[AT_MARK] == 0);
+    return (header[0] & BIT_A) != 0 || (oracle_distance(record, header) == 1 && record[AT_MARK] == 0);
 }
 
-/* The number for a packet to be opened, but for its protocol number: "7, 1, 5, 6, 10, 11, 2". */
-static int open_number(buffer record, part packet, size_t room)
+/* The number for a header that a well formed record meets: "5, 6, 10, 11". */
+static int header_number(const octet *record, const octet header[2])
 {
+    if ((header[0] & BIT_D) == 0 || (!is_stateful(record) && (header[0] & BIT_A) == 0))
+        return FLAGS;
+    if (arrived_count(header) == last_count(record))
+        return REPEAT;
+    if (oracle_distance(record, header) > FARTHEST)
+        return LATE;
+    return can_open(record, header) ? DONE : WAITING;
+}
+
+/* The number for a packet by what stands in front of its data part, and that part's length: "7, 1, 5, 6, 10, 11, 2". */
+static int front_number(buffer record, part front, size_t total, size_t room)
+{
+    int number;
+
     if (!well_formed(record))
         return RECORD;
-    if (packet.n < FRONT + SHORTEST_PLAIN || packet.n > FRONT + LONGEST_PLAIN || packet.at[0] != 0x00 || packet.at[1] != 0xFD)
+    if (front.n != FRONT || !is_carried(total) || front.at[0] != 0x00 || front.at[1] != 0xFD)
         return SHAPE;
-    if ((packet.at[2] & BIT_D) == 0 || (!is_stateful(record.at) && (packet.at[2] & BIT_A) == 0))
-        return FLAGS;
-    if (arrived_count(packet) == last_count(record.at))
-        return REPEAT;
-    if (oracle_distance(record.at, packet) > FARTHEST)
-        return LATE;
-    if (!can_open(record.at, packet))
-        return WAITING;
-    return room < packet.n - FRONT ? ROOM : DONE;
+    number = header_number(record.at, front.at + 2);
+    return number == DONE && room < total ? ROOM : number;
 }
 
-/* The key changes that a packet brings: stateless, its distance; stateful, the counts ending in 0xFF after the last one up to its own. */
-static unsigned changes_for(const octet *record, part packet)
+/* The key changes that a header brings: stateless, its distance; stateful, the counts ending in 0xFF after the last one up to its own. */
+static unsigned changes_for(const octet *record, const octet header[2])
 {
-    unsigned distance = oracle_distance(record, packet), changes = 0;
+    unsigned distance = oracle_distance(record, header), changes = 0;
 
     if (!is_stateful(record))
         return distance;
@@ -838,35 +870,147 @@ static unsigned changes_for(const octet *record, part packet)
     return changes;
 }
 
+/* A record after the key changes that a header brings, with its count; and the box to open with, "keyed afresh if A is set". */
+static void follow(octet *record, const octet header[2], octet state[RC4_STATE])
+{
+    state_at(record + AT_STATE, state);
+    renew(record, changes_for(record, header), arrived_count(header), state);
+    if ((header[0] & BIT_A) != 0)
+        key_afresh(record, state);
+}
+
+/* Answer 11: "the changes made and reported, count the arrived one, mark set". */
+static opened wait_for_a(octet *record, const octet header[2])
+{
+    opened result = {WAITING, changes_for(record, header)};
+    octet state[RC4_STATE];
+
+    follow(record, header, state);
+    put_state(record + AT_STATE, state);
+    record[AT_MARK] = 1;
+    return result;
+}
+
 /* Open: "7, 1, 5, 6, 10, 11, 2, 4"; the key changes, RC4, last count = arrived. */
 opened oracle_open(buffer record, part packet, buffer out)
 {
-    opened result = {open_number(record, packet, out.n), 0};
+    part front = of(packet.at, packet.n < FRONT ? packet.n : FRONT), data = of(packet.at + front.n, packet.n - front.n);
+    opened result = {front_number(record, front, data.n, out.n), 0};
     octet next[RECORD_OCTETS], state[RC4_STATE], plain[LONGEST_PLAIN];
-    unsigned changes;
 
-    if (result.number != DONE && result.number != WAITING)
+    if (result.number == WAITING)
+        return wait_for_a(record.at, front.at + 2);
+    if (result.number != DONE)
         return result;
-    changes = changes_for(record.at, packet);
     memcpy(next, record.at, RECORD_OCTETS);
-    state_of(next, state);
-    renew(next, changes, arrived_count(packet), state);
-    if (result.number == WAITING) {
-        put_state(next, state);
-        next[AT_MARK] = 1;
-    } else {
-        if ((packet.at[2] & BIT_A) != 0)
-            key_afresh(next, state);
-        oracle_rc4_run(state, of(packet.at + FRONT, packet.n - FRONT), (buffer){plain, packet.n - FRONT});
-        if (off_protocol(plain)) {
-            result.number = PROTOCOL;
-            return result;
-        }
-        settle(next, state);
-        memcpy(out.at, plain, packet.n - FRONT);
+    follow(next, front.at + 2, state);
+    oracle_rc4_run(state, data, (buffer){plain, data.n});
+    if (off_protocol(plain)) {
+        result.number = PROTOCOL;
+        return result;
     }
+    result.changes = changes_for(record.at, front.at + 2);
+    settle(next, state);
     memcpy(record.at, next, RECORD_OCTETS);
-    result.changes = changes;
+    memcpy(out.at, plain, data.n);
+    return result;
+}
+
+/* A closed walk, as an ended one: zeros behind the record. */
+static void close_walk(octet *walk)
+{
+    memset(walk + RECORD_OCTETS, 0, WALK_OCTETS - RECORD_OCTETS);
+}
+
+/* Begin: "the order is that of open without 4; a refused begin gives a closed walk" (02, M-104). Only 11 moves the record. */
+opened oracle_begin(buffer walk, part front, size_t total, size_t room)
+{
+    opened result = {RECORD, 0};
+    octet next[RECORD_OCTETS], state[RC4_STATE];
+
+    if (walk.n != WALK_OCTETS || !readable(walk.at))
+        return result;
+    result.number = front_number((buffer){walk.at, RECORD_OCTETS}, front, total, room);
+    close_walk(walk.at);
+    if (result.number == WAITING)
+        return wait_for_a(walk.at, front.at + 2);
+    if (result.number != DONE)
+        return result;
+    memcpy(next, walk.at, RECORD_OCTETS);
+    follow(next, front.at + 2, state);
+    walk.at[AT_LIVE] = 1;
+    memcpy(walk.at + AT_HEADER, front.at + 2, 2);
+    memcpy(walk.at + AT_NEXT, next + AT_SESSION, KEY_PLACES);
+    put_state(walk.at + AT_DRAWN, state);
+    put_number(walk.at + AT_TOTAL, (unsigned)total);
+    return result;
+}
+
+/* Whether a walk goes on: "every later call on a closed or ended walk is 7, as on one with an ill-formed link or fields outside these
+   limits". */
+static bool goes_on(buffer walk)
+{
+    return walk.n == WALK_OCTETS && walk.at[AT_LIVE] == 1 && well_formed((buffer){walk.at, RECORD_OCTETS})
+           && is_carried(number_at(walk.at + AT_TOTAL)) && number_at(walk.at + AT_FED) <= number_at(walk.at + AT_TOTAL)
+           && header_number(walk.at, walk.at + AT_HEADER) == DONE;
+}
+
+/* Feed: "its order is 7, 2, 3, 4"; it writes "its piece opened, both protocol octets together, once judged". Before that the only octet fed
+   is kept in the walk, in front of the piece. */
+int oracle_feed(buffer walk, part piece, buffer out)
+{
+    octet state[RC4_STATE], plain[LONGEST_PLAIN];
+    size_t total, fed, kept, from;
+
+    if (!goes_on(walk))
+        return RECORD;
+    total = number_at(walk.at + AT_TOTAL);
+    fed = number_at(walk.at + AT_FED);
+    if (out.n < total)
+        return ROOM;
+    if (piece.n > total - fed) {
+        close_walk(walk.at);
+        return SIZE;
+    }
+    kept = fed == 1;
+    from = fed - kept;
+    plain[0] = walk.at[AT_FIRST];
+    state_at(walk.at + AT_DRAWN, state);
+    oracle_rc4_run(state, piece, (buffer){plain + kept, piece.n});
+    fed += piece.n;
+    if (from == 0 && fed >= 2 && off_protocol(plain)) {
+        close_walk(walk.at);
+        return PROTOCOL;
+    }
+    if (fed >= 2)
+        memcpy(out.at + from, plain, fed - from);
+    put_state(walk.at + AT_DRAWN, state);
+    put_number(walk.at + AT_FED, (unsigned)fed);
+    walk.at[AT_FIRST] = fed == 1 ? plain[0] : 0;
+    return DONE;
+}
+
+/* End: 7, also where the next record would be ill formed, then "an end before it is 1"; the record moves as by an open. */
+opened oracle_end(buffer walk)
+{
+    opened result = {RECORD, 0};
+    octet next[RECORD_OCTETS], state[RC4_STATE];
+
+    if (!goes_on(walk))
+        return result;
+    memcpy(next, walk.at, RECORD_OCTETS);
+    memcpy(next + AT_SESSION, walk.at + AT_NEXT, KEY_PLACES);
+    put_number(next + AT_COUNT, arrived_count(walk.at + AT_HEADER));
+    state_at(walk.at + AT_DRAWN, state);
+    settle(next, state);
+    if (!well_formed((buffer){next, RECORD_OCTETS}))
+        return result;
+    result.number = number_at(walk.at + AT_FED) < number_at(walk.at + AT_TOTAL) ? SHAPE : DONE;
+    if (result.number == DONE) {
+        result.changes = changes_for(walk.at, walk.at + AT_HEADER);
+        memcpy(walk.at, next, RECORD_OCTETS);
+    }
+    close_walk(walk.at);
     return result;
 }
 

@@ -44,6 +44,7 @@ enum {
     BINDING_KEY = 32,
     OPTION = 6,
     RECORD_OCTETS = 295,
+    WALK_OCTETS = 577,
     RESET_REQUEST = 4,
     SHORTEST_PLAIN = 2,
     LONGEST_PLAIN = 1498,
@@ -123,8 +124,13 @@ int oracle_seal(buffer record, part plain, buffer out);
 opened oracle_open(buffer record, part packet, buffer out);
 int oracle_reset(buffer record, part request);
 
-/* How far a packet's count, in its third and fourth octet, is ahead of a record's. */
-unsigned oracle_distance(const octet *record, part packet);
+/* How far the count in a packet's header, its third and fourth octet, is ahead of a record's. */
+unsigned oracle_distance(const octet *record, const octet header[2]);
+
+/* A packet opened in pieces: a walk of 577 octets, as include/udukemb.h lays it out. A refusal may close it. */
+opened oracle_begin(buffer walk, part front, size_t total, size_t room);
+int oracle_feed(buffer walk, part piece, buffer out);
+opened oracle_end(buffer walk);
 
 /* The binding key. */
 int oracle_base_key(bool server, part send, part receive, octet out[BASE_KEY]);
