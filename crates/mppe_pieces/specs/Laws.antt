@@ -45,11 +45,6 @@ four-octets P all (a ∷ b ∷ c ∷ []) long = absurd (omega (arith, long))
 four-octets P all (a ∷ b ∷ c ∷ d ∷ []) long = all a b c d
 four-octets P all (a ∷ b ∷ c ∷ d ∷ e ∷ more) long = absurd (omega (arith, long))
 
--- a refusal is no 0
-refused-some : (t : Bool) (n : ℕ) (l : Link) (h : ℕ) → pick t (waited l h [] .outcome) (refusal (suc n) l [] .outcome) .answer ≡ done → ⊥
-refused-some true n l h e = suc-ne-zero 10 e
-refused-some false n l h e = suc-ne-zero n e
-
 module _ (limit far : ℕ) where
   -- a feed by its number
   step-is : (w : Walk) (p out : List ℕ) (code : ℕ) → feedCode limit far w p (length out) ≡ code
@@ -265,15 +260,6 @@ module _ (limit far : ℕ) where
           taken out d p roomy (omega arith) (le-ltb total (length d + length p) fits) (not-off d p (joined ps) carried₂ (early (length d)) (early (length (d ++ p))) refl refl) in
           rw (feed-one (walkAt d) (bufferAt out d) p ps _ one, ← same) (all-taken out (d ++ p) ps roomy long₂ carried₂)
 
-  -- a begin answers 0 by its rows alone
-  begin-done : (l : Link) (four : List ℕ) (total lent : ℕ) → beginStep limit far l four total lent .answer ≡ done → beginCode limit far l four total lent ≡ done
-  unfolding beginStep
-  begin-done l four total lent good = by (beginCode limit far l four total lent) good
-    where
-      by : (code : ℕ) → onDone code (onWith done (walkOf l (headerIn four) total)) (overWith (unbegun code l (headerIn four))) .answer ≡ done → code ≡ done
-      by zero e = refl
-      by (suc n) e = absurd (refused-some (eqb (suc n) waiting) n l (headerIn four) e)
-
   -- an end, by its number
   end-is : (w : Walk) → endCode limit far w ≡ done → endStep limit far w ≡ overWith (record { answer = done; changes = changesFor (w .link) (w .header); link = linkLeft w })
   unfolding endStep
@@ -298,6 +284,14 @@ module _ (limit far : ℕ) where
       by : (code : ℕ) → onDone code (overWith (record { answer = done; changes = changesFor (w .link) (w .header); link = linkLeft w })) (onWith code (pick (eqb code shape) (over (w .link)) w)) .answer ≡ done → code ≡ done
       by zero e = refl
       by (suc n) e = e
+
+  -- and so is the walk of a run that ends well
+  ended-live : (l : Link) (four : List ℕ) (total lent : ℕ) (out : List ℕ) (ps : List (List ℕ)) → walked limit far l four total lent out ps .step .answer ≡ done
+      → feedAll limit far (beginStep limit far l four total lent .walk) out ps .walk .live ≡ true
+  unfolding walked
+  ended-live l four total lent out ps good =
+      let w : Walk = feedAll limit far (beginStep limit far l four total lent .walk) out ps .walk in
+      goes-live w (end-had w (end-done w good) .0)
 
   -- a run of calls, from what the feeds leave
   walked-left : (l : Link) (four : List ℕ) (total lent : ℕ) (out : List ℕ) (pieces : List (List ℕ)) (r : Left)
@@ -446,10 +440,21 @@ module _ (limit far : ℕ) where
         (rw code, rw (walked-left l four total (length out) out pieces _ code left, end-is (walkAt l h total text) (whole-end l h total can text refl)))
 
   -- another length than four is refused
-  four-long : (l : Link) (four : List ℕ) (total lent : ℕ) → beginStep limit far l four total lent .answer ≡ done → length four ≡ front
+  four-long : (l : Link) (four : List ℕ) (total lent : ℕ) → beginCode limit far l four total lent ≡ done → length four ≡ front
   unfolding beginCode
-  four-long l four total lent begun =
-      right-length front four (clear shape (beginRows limit far l four total lent) refl (unfold beginCode in begin-done l four total lent begun) .0)
+  four-long l four total lent code = right-length front four (clear shape (beginRows limit far l four total lent) refl code .0)
+
+  -- a walk that is live after its feeds had a good begin
+  live-begun : (l : Link) (four : List ℕ) (total lent : ℕ) (out : List ℕ) (ps : List (List ℕ))
+      → feedAll limit far (beginStep limit far l four total lent .walk) out ps .walk .live ≡ true → beginCode limit far l four total lent ≡ done
+  unfolding beginStep
+  live-begun l four total lent out ps live = by (beginCode limit far l four total lent) refl
+    where
+      by : (code : ℕ) → beginCode limit far l four total lent ≡ code → code ≡ done
+      by zero e = refl
+      by (suc n) e =
+          let closed : Link = unbegun (suc n) l (headerIn four) .link in
+          absurd (true≢false (sym (rw (e, over-all closed out ps) at live) ∙ over-dead closed))
 
   -- what stays: after a begin but for 11, after a feed, after a feed and an end that are refused
   begun-kept : (l : Link) (four : List ℕ) (total lent code : ℕ) → beginCode limit far l four total lent ≡ code → beginStep limit far l four total lent .answer ≢ waiting
@@ -526,13 +531,13 @@ module _ (limit far : ℕ) where
 pub pieces : (limit far : ℕ) → Pieces limit far
 pieces limit far =
     record {
-      equal = λ l four total lent out ps begun good.
+      equal = λ l four total lent out ps good.
+          let code = live-begun limit far l four total lent out ps (ended-live limit far l four total lent out ps good) in
           four-octets
-          (λ (four : List ℕ). beginStep limit far l four total lent .answer ≡ done → walked limit far l four total lent out ps .step .answer ≡ done
+          (λ (four : List ℕ). beginCode limit far l four total lent ≡ done → walked limit far l four total lent out ps .step .answer ≡ done
           → resultOf (walked limit far l four total lent out ps) ≡ openResult limit far l (four ++ joined ps) out)
-          (λ a b c d begun good.
-          equal-four limit far l a b c d total lent out ps (begin-done limit far l (a ∷ b ∷ c ∷ d ∷ []) total lent begun) (ltb (length out) total) refl good)
-          four (four-long limit far l four total lent begun) begun good;
+          (λ a b c d code. equal-four limit far l a b c d total lent out ps code (ltb (length out) total) refl)
+          four (four-long limit far l four total lent code) code good;
       opens = λ l four out ps long.
           four-octets
           (λ (four : List ℕ). openResult limit far l (four ++ joined ps) out .outcome .answer ≡ done
@@ -546,15 +551,16 @@ pieces limit far =
           × (beginStep limit far l four (length text) (length out) .walk ≡ over (beginStep limit far l four (length text) (length out) .walk .link)))
           (λ a b c d. begin-refuses limit far l a b c d text out (beginCode limit far l (a ∷ b ∷ c ∷ d ∷ []) (length text) (length out)) refl)
           four long;
-      so-far = λ l four total lent out ps begun.
+      so-far = λ l four total lent out ps roomy live.
+          let code = live-begun limit far l four total lent out ps live in
           four-octets
-          (λ (four : List ℕ). beginStep limit far l four total lent .answer ≡ done → total ≤ length out
+          (λ (four : List ℕ). beginCode limit far l four total lent ≡ done → total ≤ length out
           → feedAll limit far (beginStep limit far l four total lent .walk) out ps .walk .live ≡ true
           → (feedAll limit far (beginStep limit far l four total lent .walk) out ps .walk .fed ≡ length (joined ps))
           × (feedAll limit far (beginStep limit far l four total lent .walk) out ps .buffer
           ≡ pick (early (length (joined ps))) out (written (plainFor l (headerIn four) (joined ps)) out)))
-          (λ a b c d begun. so-far-four limit far l a b c d total lent out ps (begin-done limit far l (a ∷ b ∷ c ∷ d ∷ []) total lent begun))
-          four (four-long limit far l four total lent begun) begun;
+          (λ a b c d code. so-far-four limit far l a b c d total lent out ps code)
+          four (four-long limit far l four total lent code) code roomy live;
       unmoved = unended-kept limit far;
     }
 

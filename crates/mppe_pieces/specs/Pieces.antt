@@ -48,7 +48,6 @@ pub record Pieces (limit far : ℕ) : Type 0 where
   -- "At a good end, if from begin on each call got walk and buffer as the last one left them, buffer, record and report equal the one-call
   -- form for every cutting"
   pub equal : (l : Link) (four : List ℕ) (total lent : ℕ) (out : List ℕ) (pieces : List (List ℕ))
-      → beginStep limit far l four total lent .answer ≡ done
       → walked limit far l four total lent out pieces .step .answer ≡ done
       → resultOf (walked limit far l four total lent out pieces) ≡ openResult limit far l (four ++ joined pieces) out
   -- where one call opens, every cutting has a good begin and a good end
@@ -65,7 +64,7 @@ pub record Pieces (limit far : ℕ) : Type 0 where
   -- "A feed writes its piece opened, both protocol octets together": while the walk is live every piece was taken, and the buffer has them
   -- opened, or is as lent before both protocol octets are there
   pub so-far : (l : Link) (four : List ℕ) (total lent : ℕ) (out : List ℕ) (pieces : List (List ℕ))
-      → beginStep limit far l four total lent .answer ≡ done → total ≤ length out
+      → total ≤ length out
       → feedAll limit far (beginStep limit far l four total lent .walk) out pieces .walk .live ≡ true
       → (feedAll limit far (beginStep limit far l four total lent .walk) out pieces .walk .fed ≡ length (joined pieces))
       × (feedAll limit far (beginStep limit far l four total lent .walk) out pieces .buffer
