@@ -1,5 +1,8 @@
 // What the benchmark calls from C: digests, ciphers, keys and packets over numbers and octet slices. A result is cut to the room lent.
 ghost use mathlib.Core.Path.{_≡_};
+ghost use mathlib.Core.List.{_++_};
+ghost use Prim.Native.Nat.{_≤_};
+ghost use Rattle.answer.specs.Answer.{done};
 ghost use Rattle.md4.specs.Md4.{md4Answer};
 ghost use Rattle.sha1.specs.Sha1.{sha1Answer};
 ghost use Rattle.sha256.specs.Sha256.{sha256Answer};
@@ -10,9 +13,11 @@ ghost use Rattle.mppe_keys.specs.Answers.{keyChangesAnswer};
 ghost use Rattle.mppe_keys.specs.declared.Strength.the-variants.{Bits128};
 ghost use Rattle.mppe.specs.Link.{longestPlain, farthest, sealResult, openResult};
 ghost use Rattle.bench.specs.Copied.{copied, strengthOf, linkAt};
+ghost use Rattle.bench.specs.Cut.{Cut};
 use mppe::Link;
 use mppe_keys::Strength;
 use mppe_keys::mode_if;
+use mppe_pieces::Walk;
 use rc4::Rc4;
 
 // MD4 of a text.
@@ -136,6 +141,58 @@ pub extern "C" fn bench_open(
     let link = link_at(bits40, stateful, start, session, count);
     let made = link.open(packet, out);
     made.answer
+}
+
+// A sealed packet opened in pieces of some octets, the last one shorter where they do not divide the data.
+#[no_mangle]
+pub extern "C" fn bench_pieces(
+    bits40: bool,
+    stateful: bool,
+    start: &[u8],
+    session: &[u8],
+    count: u16,
+    step: usize,
+    front: &[u8],
+    text: &[u8],
+    out: &mut [u8],
+) -> u8
+    ensures { λ r. ⌜ (r ≡ done
+        → now (out .exit) ≡ openResult longestPlain farthest (linkAt bits40 stateful (now (start .entry)) (now (session .entry)) count)
+        (now (front .entry) ++ now (text .entry)) (now (out .entry)) .buffer) ⌝ }
+{
+    if step == 0 {
+        return answer::SIZE;
+    }
+    let link = link_at(bits40, stateful, start, session, count);
+    let begun = Walk::begin(link, front, text.len(), out.len());
+    let first = begun.walk;
+    let last = feed_all(first, step, text, out);
+    let ended = last.end();
+    ended.answer
+}
+
+// Feeds a text in pieces of some octets.
+fn feed_all(first: Walk, step: usize, text: &[u8], out: &mut [u8]) -> Walk
+    requires { ⌜ 1 ≤ step ⌝ }
+    ensures { λ r. ⌜ Cut first (now (out .entry)) (now (text .entry)) r (now (out .exit)) ⌝ }
+{
+    let mut walk = first;
+    let mut n = 0;
+    while n < text.len() {
+        let m = least(step, text.len() - n);
+        let fed = walk.feed(&text[n..n + m], out);
+        walk = fed.walk;
+        n += m;
+    }
+    walk
+}
+
+// The smaller of two numbers.
+fn least(a: usize, b: usize) -> usize
+    requires { ⌜ (1 ≤ a) × (1 ≤ b) ⌝ }
+    ensures { λ r. ⌜ (1 ≤ r) × (r ≤ b) ⌝ }
+{
+    if a < b { a } else { b }
 }
 
 // A link record of its parts, each key cut to 16 places or with zeros behind it; its box is 0 to 255 in order, and it does not wait.

@@ -574,3 +574,16 @@ calls limit far =
       ended = end-good limit far;
       later = λ l piece out. (over-feed limit far l piece out, over-end limit far l);
     }
+
+-- one piece more
+pub feed-more : (limit far : ℕ) (w : Walk) (out : List ℕ) (ps : List (List ℕ)) (p : List ℕ) (r : Left) → feedAll limit far w out ps ≡ r
+    → feedAll limit far w out (ps ++ p ∷ [])
+    ≡ record { walk = feedResult limit far (r .walk) p (r .buffer) .step .walk; buffer = feedResult limit far (r .walk) p (r .buffer) .buffer }
+unfolding feedAll
+feed-more limit far w out [] p r e = rw (← e)
+feed-more limit far w out (q ∷ ps) p r e = feed-more limit far (feedResult limit far w q out .step .walk) (feedResult limit far w q out .buffer) ps p r e
+
+pub joined-more : (ps : List (List ℕ)) (p : List ℕ) → joined (ps ++ p ∷ []) ≡ joined ps ++ p
+unfolding joined
+joined-more [] p = append-nil p
+joined-more (q ∷ ps) p = rw (joined-more ps p) (sym (append-assoc q (joined ps) p))
