@@ -39,6 +39,8 @@ uint8_t bench_seal(bool bits40, bool stateful, const octet *start, size_t a, con
                    const octet *plain, size_t n, octet *out, size_t room);
 uint8_t bench_open(bool bits40, bool stateful, const octet *start, size_t a, const octet *session, size_t b, uint16_t count,
                    const octet *packet, size_t n, octet *out, size_t room);
+uint8_t bench_pieces(bool bits40, bool stateful, const octet *start, size_t a, const octet *session, size_t b, uint16_t count, size_t step,
+                     const octet *front, size_t f, const octet *data, size_t n, octet *out, size_t m);
 
 enum { BURSTS = 400, LONGEST = 65535 };
 
@@ -239,6 +241,16 @@ static void openssl_open(size_t n)
     RC4(&k, n, packet + 4, out);
 }
 
+/* The same packet in pieces; the others open it in one call. */
+static void ours_pieces(size_t n, size_t step)
+{
+    size_t k = key_octets();
+    bench_pieces(link_now.bits == 40, link_now.stateful, link_now.start, k, link_now.session, k, link_now.count, step, packet, 4, packet + 4, n,
+                 out, n);
+}
+static void ours_by_64(size_t n) { ours_pieces(n, 64); }
+static void ours_by_1(size_t n) { ours_pieces(n, 1); }
+
 static const struct measure measures[] = {
     {"MD4, 112 octets", ours_md4, plain_md4_of, openssl_md4, 112, 16, 128, 1, false},
     {"MD4, 65,535 octets", ours_md4, plain_md4_of, openssl_md4, 65535, 16, 128, 1, false},
@@ -263,10 +275,13 @@ static const struct measure measures[] = {
     {"open, 64 octets, 40 bits", ours_open, plain_open_of, openssl_open, 64, 64, 40, 1, false},
     {"open, 1,498 octets, 40 bits", ours_open, plain_open_of, openssl_open, 1498, 1498, 40, 1, false},
     {"open, 1,498 octets, 2,047 lost before", ours_open, plain_open_of, openssl_open, 1498, 1498, 128, 2048, false},
+    {"open, 1,498 octets in pieces of 64", ours_by_64, plain_open_of, openssl_open, 1498, 1498, 128, 1, false},
+    {"open, 1,498 octets one by one", ours_by_1, plain_open_of, openssl_open, 1498, 1498, 128, 1, false},
     {"stateful seal, 64 octets", ours_seal, plain_seal_of, openssl_seal, 64, 68, 128, 1, true},
     {"stateful seal, 1,498 octets", ours_seal, plain_seal_of, openssl_seal, 1498, 1502, 128, 1, true},
     {"stateful open, 64 octets", ours_open, plain_open_of, openssl_open, 64, 64, 128, 1, true},
     {"stateful open, 1,498 octets", ours_open, plain_open_of, openssl_open, 1498, 1498, 128, 1, true},
+    {"stateful open, 1,498 octets in pieces of 64", ours_by_64, plain_open_of, openssl_open, 1498, 1498, 128, 1, true},
 };
 
 static double now(void)
