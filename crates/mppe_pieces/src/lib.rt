@@ -111,7 +111,7 @@ impl Walk {
 }
 
 // A walk that is over: nothing beside its record.
-fn over(link: Link) -> Walk
+pub fn over(link: Link) -> Walk
     ensures { λ r. ⌜ r ≡ overOf link ⌝ }
 {
     let state = Rc4 {

@@ -2,14 +2,14 @@
 use mathlib.Core.Path.{_≡_, refl, sym, ap, _∙_}
 use mathlib.Core.Bool.{Bool, true, false, not}
 use mathlib.Core.List.{List, [], _∷_, _++_, append-nil}
-use Prim.Native.Nat.{ℕ, _+_, _*_, _-_, _/_, _%_, _^_, _<_, _≤_}
+use Prim.Native.Nat.{ℕ, _+_, _*_, _-_, _/_, _%_, _<_, _≤_}
 use native.Mathlib.Omega.{arith}
 use lib.Dec.{eqb}
 use lib.ListN.{length, take, drop, getD, replicate, length-append, length-drop}
 use lib.Seq.{take-all, drop-drop, getD-drop}
 use borrow.Author.Tests.{eq-eqb, ne-eqb, lt-ltb, le-ltb}
 use Rattle.answer.specs.Answer.{done}
-use Rattle.octets.specs.Octets.{written, writtenAt, bigEndian}
+use Rattle.octets.specs.Octets.{written, writtenAt}
 use Rattle.octets.specs.Laws.{append-more}
 use Rattle.rc4.specs.declared.Rc4.{Rc4}
 use Rattle.mppe_keys.specs.declared.Strength.{Strength}
@@ -20,7 +20,7 @@ use Rattle.mppe.specs.declared.Link.{Link}
 use Rattle.mppe_record.specs.declared.RecordRead.{RecordRead}
 use Rattle.mppe_record.specs.Record.{strengthOf, noStrength, yesNumber, frontOctets, restOctets, recordLength, recordOctets, recordIn, noRecord, recordRead}
 use Rattle.mppe_record.specs.Inner.{stateIn}
-use Rattle.mppe_record.specs.Laws.{Sized, frontOctets-length}
+use Rattle.mppe_record.specs.Laws.{two-octets, Sized, frontOctets-length}
 
 -- the strength of a number of bits
 pub bits-128 : (bits : ℕ) → bits ≡ 128 → Bits128 ≡ strengthOf bits
@@ -89,12 +89,6 @@ pub places-copied : {r : List ℕ} (key : List ℕ) → r ≡ written (take 16 k
 places-copied key e h = e ∙ rw (take-all 16 key (omega arith), h, append-nil)
 
 -- the octets of a record, one part behind the other
-two-octets : (n : ℕ) → n < 65536 → n / 256 ∷ n % 256 ∷ [] ≡ bigEndian 2 n
-two-octets n h =
-    let high : n / 256 ^ 1 % 256 ≡ n / 256 = omega arith in
-    let low : n / 256 ^ 0 % 256 ≡ n % 256 = omega arith in
-    rw (high, low)
-
 pub front-laid : {b : ℕ} {t₁ t₂ t₃ t₄ : List ℕ} (l : Link) → Sized l
     → (b ≡ bitsOf (l .strength)) × (t₁ ≡ writtenAt 0 (take 35 (b ∷ [])) (replicate 35 0))
     × (t₂ ≡ writtenAt 1 (take (length t₁ - 1) (l .start)) t₁) × (t₃ ≡ writtenAt 17 (take (length t₂ - 17) (l .session)) t₂)

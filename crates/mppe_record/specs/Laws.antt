@@ -44,13 +44,26 @@ mode-told : (stateful : Bool) → byMode (modeIf stateful) false true ≡ statef
 mode-told true = refl
 mode-told false = refl
 
-yes-back : (holds : Bool) → eqb (yesNumber holds) 1 ≡ holds
+pub yes-back : (holds : Bool) → eqb (yesNumber holds) 1 ≡ holds
 yes-back true = refl
 yes-back false = refl
 
-yes-known : (holds : Bool) → noChoice (yesNumber holds) ≡ false
+pub yes-known : (holds : Bool) → noChoice (yesNumber holds) ≡ false
 yes-known true = refl
 yes-known false = refl
+
+-- a number as two octets, and two octets that are a number's
+pub two-octets : (n : ℕ) → n < 65536 → n / 256 ∷ n % 256 ∷ [] ≡ bigEndian 2 n
+two-octets n h =
+    let high : n / 256 ^ 1 % 256 ≡ n / 256 = omega arith in
+    let low : n / 256 ^ 0 % 256 ≡ n % 256 = omega arith in
+    rw (high, low)
+
+pub pair-back : (high low : ℕ) → high < 256 → low < 256 → bigEndian 2 (high * 256 + low) ≡ high ∷ low ∷ []
+pair-back high low hh hl =
+    let first : (high * 256 + low) / 256 ^ 1 % 256 ≡ high = omega arith in
+    let second : (high * 256 + low) / 256 ^ 0 % 256 ≡ low = omega arith in
+    rw (first, second)
 
 -- what the fields of the code's struct hold: 16 places a key, a count of 16 bits, 256 cells, and indices that are octets
 abbrev pub Sized : Link → Type 0
@@ -168,16 +181,14 @@ front-back (x ∷ xs) all h e =
     let high : ℕ = getD xs 32 0 in
     let low : ℕ = getD xs 33 0 in
     let last : take 2 (drop 32 xs) ≡ high ∷ low ∷ [] = ap (take 2) (drop-cons xs 32 0 (omega arith) ∙ ap (λ t. high ∷ t) (drop-cons xs 33 0 (omega arith))) in
-    let first : (high * 256 + low) / 256 ^ 1 % 256 ≡ high = omega (arith, all 33, all 34) in
-    let second : (high * 256 + low) / 256 ^ 0 % 256 ≡ low = omega (arith, all 34) in
     let tail : List ℕ = bigEndian 2 (high * 256 + low) in
-    let count : tail ≡ high ∷ low ∷ [] = rw (first, second) in
+    let count : tail ≡ high ∷ low ∷ [] = pair-back high low (all 33) (all 34) in
     let keys : take 16 xs ++ take 16 (drop 16 xs) ≡ take 32 xs = sym (take-add 16 16 xs) in
     let behind : take 16 xs ++ take 16 (drop 16 xs) ++ tail ≡ take 34 xs = ap (λ k. k ++ tail) keys ∙ ap (λ t. take 32 xs ++ t) (count ∙ sym last) ∙ sym (take-add 32 2 xs) in
     ap (λ t. bitsOf (strengthOf x) ∷ t) behind ∙ ap (λ b. b ∷ take 34 xs) (sym (eqb-true x (bitsOf (strengthOf x)) e))
 
 -- .. and those behind them
-choice-is : (n : ℕ) → noChoice n ≡ false → yesNumber (eqb n 1) ≡ n
+pub choice-is : (n : ℕ) → noChoice n ≡ false → yesNumber (eqb n 1) ≡ n
 choice-is zero h = refl
 choice-is (suc zero) h = refl
 choice-is (suc (suc n)) h = absurd (omega (arith, ltb-false 1 (suc (suc n)) h))

@@ -90,7 +90,7 @@ fn rest_octets(link: Link) -> [u8; 260]
 }
 
 // A yes or no as a number.
-fn yes_number(holds: bool) -> u8
+pub fn yes_number(holds: bool) -> u8
     ensures { λ r. ⌜ r ≡ yesNumber holds ⌝ }
 {
     if holds {
