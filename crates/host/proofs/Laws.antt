@@ -8,9 +8,10 @@ use lib.Dec.{ltb}
 use lib.ListN.{length, take, replicate, drop-of-length-le}
 use lib.Seq.{take-all, take-at}
 use borrow.Author.Tests.{lt-ltb, le-ltb}
-use Rattle.answer.specs.Answer.{done, room, size, strength, pick, firstOf, onDone, wrong, oneCode, twoCode}
-use Rattle.answer.specs.Laws.{rows-pass, rows-stop, not-done, right}
-use Rattle.octets.specs.Octets.{written}
+use Rattle.answer.specs.Answer.{done, room, size, notRecord, strength, pick, firstOf, onDone, wrong, oneCode, twoCode}
+use Rattle.answer.specs.Laws.{rows-pass, rows-stop, not-done, right, not-right}
+use Rattle.octets.specs.Octets.{written, writtenAt}
+use Rattle.octets.specs.Laws.{copy-fits}
 use Rattle.mschap.specs.declared.Hash.{Hash}
 use Rattle.mschap.specs.Lengths.{responseLength}
 use Rattle.mschap.specs.Mschap.{passwordHash, hashHash}
@@ -33,13 +34,19 @@ use Rattle.ccp.specs.Answers.{writeCode, writeOut, replyAnswer, replyCodeOf}
 use Rattle.mppe.specs.declared.Link.{Link}
 use Rattle.mppe.specs.declared.NewLink.{NewLink}
 use Rattle.mppe.specs.declared.Outcome.{Outcome}
-use Rattle.mppe.specs.Link.{Result, newLink}
+use Rattle.mppe.specs.Link.{Result, longestPlain, farthest, newLink}
 use Rattle.mppe_record.specs.declared.RecordRead.{RecordRead}
 use Rattle.mppe_record.specs.Record.{strengthOf, noStrength, recordLength, recordOctets, recordRead}
 use Rattle.mppe_record.specs.Laws.{read-length}
+use Rattle.mppe_pieces.specs.declared.Walk.{Walk}
+use Rattle.mppe_pieces.specs.declared.Step.{Step}
+use Rattle.mppe_pieces.specs.Walk.{Fed, beginStep}
+use Rattle.mppe_walk.specs.declared.WalkRead.{WalkRead}
+use Rattle.mppe_walk.specs.Walk.{walkLength, walkOctets, frontRead, walkRead}
+use Rattle.mppe_walk.specs.Laws.{read-length as read-walk-length}
 use Rattle.host.specs.declared.Reply.{Reply}
 use Rattle.host.specs.declared.Opened.{Opened}
-use Rattle.host.specs.Host.{Given, Linked, given, roleOf, directionOf, startKeyFrom, masterKeyFrom, credentialRows, startKeyGiven, choiceOctets, optionGiven, optionReply, choiceReply, noReply, replyOf, replyOctets, newLinkGiven, linkedBy, unchanged, linked, openedBy}
+use Rattle.host.specs.Host.{Given, Linked, given, roleOf, directionOf, startKeyFrom, masterKeyFrom, credentialRows, startKeyGiven, choiceOctets, optionGiven, optionReply, choiceReply, noReply, replyOf, replyOctets, newLinkGiven, linkedBy, unchanged, linked, openedBy, walkedBy, stepped, walked, closedOctets, beginWalked}
 
 -- a call's number and the lent buffer after it are those of a definition ..
 abbrev pub Gave : ℕ → List ℕ → Given → Type 0
@@ -193,10 +200,10 @@ unfolding given
 reply-refused zero out e = rw (le-ltb (length out) 0 (omega arith)) (e, refl)
 reply-refused (suc n) out e = (e, refl)
 
--- a record written over the octets of another
-pub record-put : {octets out′ : List ℕ} (l : Link) (out : List ℕ) → octets ≡ recordOctets l → out′ ≡ written (take (length out) octets) out
-    → length octets ≡ recordLength → length out ≡ recordLength → out′ ≡ recordOctets l
-record-put {octets} l out e w h h′ =
+-- a record or a walk written over the octets of another
+pub put-over : {octets out′ : List ℕ} (made out : List ℕ) → octets ≡ made → out′ ≡ written (take (length out) octets) out → length octets ≡ length out
+    → out′ ≡ made
+put-over {octets} made out e w h =
     w ∙ rw (take-all (length out) octets (omega arith), drop-of-length-le out {i = length octets} (omega arith), append-nil) e
 
 -- octets that hold a record are 295
@@ -220,7 +227,51 @@ pub linked-made : {read : RecordRead} {made : Outcome} {octets′ out′ : List 
 unfolding linked
 linked-made call octets out e h w eo = rw (← e, h, eo, w .0, w .1)
 
--- what seal and open tell of it
+-- octets that hold a walk are 577
+pub walk-length : {read : WalkRead} (octets : List ℕ) → read ≡ walkRead octets → read .answer ≡ done → length octets ≡ walkLength
+walk-length octets e h = read-walk-length octets (sym (ap (λ (r : WalkRead). r .answer) e) ∙ h)
+
+-- a call on the walk in lent octets: they hold none, they hold one
+pub walked-none : {read : WalkRead} (call : Walk → Fed) (octets out : List ℕ) → read ≡ walkRead octets → (read .answer ≡ done → ⊥)
+    → unchanged (read .answer) octets out ≡ walked call octets out
+unfolding walked
+walked-none {read} call octets out e h =
+    rw (← e) (sym (not-done (read .answer) (walkedBy (call (read .walk))) (unchanged (read .answer) octets out) h))
+
+pub walked-made : {read : WalkRead} {made : Step} {octets′ out′ : List ℕ} (call : Walk → Fed) (octets out : List ℕ)
+    → read ≡ walkRead octets → read .answer ≡ done → (made ≡ call (read .walk) .step) × (out′ ≡ call (read .walk) .buffer)
+    → octets′ ≡ walkOctets (made .walk)
+    → _≡_ {A = Linked} (record { code = made .answer; changed = made .changes; octets = octets′; buffer = out′ }) (walked call octets out)
+unfolding walked
+walked-made call octets out e h w eo = rw (← e, h, eo, w .0, w .1)
+
+-- a walk closed without its record
+pub walk-closed : {out′ : List ℕ} (out : List ℕ) → length out ≡ walkLength → out′ ≡ writtenAt 295 (take (length out - 295) (replicate 282 0)) out
+    → out′ ≡ closedOctets out
+walk-closed out h e =
+    e ∙ copy-fits 295 (replicate 282 0) out (omega arith) ∙ rw (drop-of-length-le out {i = 577} (omega arith), append-nil)
+
+-- a begin: lent octets that are not 577, that begin with no record, and that begin with one
+pub begin-short : (octets four : List ℕ) (total lent : ℕ) → (length octets ≡ walkLength → ⊥)
+    → unchanged notRecord octets [] ≡ beginWalked octets four total lent
+unfolding beginWalked
+begin-short octets four total lent h = rw (not-right walkLength octets h)
+
+pub begin-none : {read : RecordRead} {octets′ : List ℕ} (octets four : List ℕ) (total lent : ℕ) → length octets ≡ walkLength → read ≡ frontRead octets
+    → (read .answer ≡ done → ⊥) → octets′ ≡ closedOctets octets → unchanged (read .answer) octets′ [] ≡ beginWalked octets four total lent
+unfolding beginWalked
+begin-none {read} octets four total lent hl e h eo =
+    let made : Linked = walkedBy (stepped (beginStep longestPlain farthest (read .link) four total lent)) in
+    rw (right walkLength octets hl, ← e, eo) (sym (not-done (read .answer) made (unchanged (read .answer) (closedOctets octets) []) h))
+
+pub begin-made : {read : RecordRead} {made : Step} {octets′ : List ℕ} (octets four : List ℕ) (total lent : ℕ) → length octets ≡ walkLength
+    → read ≡ frontRead octets → read .answer ≡ done → made ≡ beginStep longestPlain farthest (read .link) four total lent
+    → octets′ ≡ walkOctets (made .walk)
+    → _≡_ {A = Linked} (record { code = made .answer; changed = made .changes; octets = octets′; buffer = [] }) (beginWalked octets four total lent)
+unfolding beginWalked
+begin-made octets four total lent hl e h em eo = rw (right walkLength octets hl, ← e, h, eo, em)
+
+-- what the calls tell of it
 pub seal-told : {l l′ : Linked} → l ≡ l′ → (l .code ≡ l′ .code) × (l .octets ≡ l′ .octets) × (l .buffer ≡ l′ .buffer)
 seal-told e = (ap (λ l. l .code) e, ap (λ l. l .octets) e, ap (λ l. l .buffer) e)
 
@@ -231,3 +282,8 @@ open-told e = (ap openedBy e, ap (λ l. l .octets) e, ap (λ l. l .buffer) e)
 
 pub reset-told : {l l′ : Linked} → l ≡ l′ → (l .code ≡ l′ .code) × (l .octets ≡ l′ .octets)
 reset-told e = (ap (λ l. l .code) e, ap (λ l. l .octets) e)
+
+pub walk-told : {l l′ : Linked} → l ≡ l′ → (_≡_ {A = Opened} (record { answer = l .code; changes = l .changed }) (openedBy l′))
+    × (l .octets ≡ l′ .octets)
+unfolding openedBy
+walk-told e = (ap openedBy e, ap (λ l. l .octets) e)

@@ -1,10 +1,10 @@
 -- What the calls from C give: each is the call under it, said over numbers and octets (01, "Which form goes where").
 use mathlib.Core.Bool.{Bool, true, false}
 use mathlib.Core.List.{List, [], _∷_, _++_}
-use Prim.Native.Nat.{ℕ}
+use Prim.Native.Nat.{ℕ, _-_}
 use lib.Dec.{ltb}
-use lib.ListN.{length}
-use Rattle.answer.specs.Answer.{room, size, strength, pick, firstOf, onDone, wrong}
+use lib.ListN.{length, take, replicate}
+use Rattle.answer.specs.Answer.{room, size, notRecord, strength, pick, firstOf, onDone, wrong}
 use Rattle.octets.specs.Octets.{written}
 use Rattle.mschap.specs.declared.Checked.{Checked}
 use Rattle.mschap.specs.declared.NtResponse.{NtResponse}
@@ -27,7 +27,12 @@ use Rattle.ccp.specs.Answers.{replyAnswer, replyCodeOf}
 use Rattle.mppe.specs.declared.Link.{Link}
 use Rattle.mppe.specs.Link.{Result, longestPlain, farthest, newLink, sealResult, openResult, resetOutcome}
 use Rattle.mppe_record.specs.declared.RecordRead.{RecordRead}
-use Rattle.mppe_record.specs.Record.{strengthOf, noStrength, recordOctets, recordRead}
+use Rattle.mppe_record.specs.Record.{strengthOf, noStrength, recordLength, recordOctets, recordRead}
+use Rattle.mppe_pieces.specs.declared.Walk.{Walk}
+use Rattle.mppe_pieces.specs.declared.Step.{Step}
+use Rattle.mppe_pieces.specs.Walk.{Fed, beginStep, feedResult, endStep}
+use Rattle.mppe_walk.specs.declared.WalkRead.{WalkRead}
+use Rattle.mppe_walk.specs.Walk.{walkLength, walkOctets, frontRead, walkRead}
 use Rattle.sstp.specs.declared.Key.{Key}
 use Rattle.sstp.specs.Binding.{baseKeyAnswer, bindingKeyAnswer}
 use Rattle.host.specs.declared.Check.{Check}
@@ -176,3 +181,42 @@ openedBy l = record { answer = l .code; changes = l .changed }
 -- a Reset-Request; it has no buffer for a result
 unfoldable pub resetLinked : (octets request : List ℕ) → Linked
 resetLinked octets request = linked (λ l. record { outcome = resetOutcome l request; buffer = [] }) octets []
+
+-- a packet in pieces (02, M-104): a result with its walk as octets
+abbrev pub walkedBy : Fed → Linked
+walkedBy r =
+    record {
+      code = r .step .answer;
+      changed = r .step .changes;
+      octets = walkOctets (r .step .walk);
+      buffer = r .buffer;
+    }
+
+-- a step that has no buffer for a result
+abbrev pub stepped : Step → Fed
+stepped s = record { step = s; buffer = [] }
+
+-- 7 where the octets hold no walk; otherwise the call on the walk that they hold, and the walk that it hands back written over them
+unfoldable pub walked : (call : (Walk → Fed)) (octets out : List ℕ) → Linked
+walked call octets out =
+    let read : WalkRead = walkRead octets in
+    onDone (read .answer) (walkedBy (call (read .walk))) (unchanged (read .answer) octets out)
+
+unfoldable pub feedWalked : (octets piece out : List ℕ) → Linked
+feedWalked octets piece out = walked (λ w. feedResult longestPlain farthest w piece out) octets out
+
+unfoldable pub endWalked : (octets : List ℕ) → Linked
+endWalked octets = walked (λ w. stepped (endStep longestPlain farthest w)) octets []
+
+-- the octets of a walk closed without reading its record: zeros behind it
+abbrev pub closedOctets : (octets : List ℕ) → List ℕ
+closedOctets octets = take recordLength octets ++ replicate (walkLength - recordLength) 0
+
+-- begin with the record in front: what stands behind it does not matter; "a refused begin gives a closed walk", also where there is no
+-- record; 7 and nothing changed where the octets are not those of a walk
+unfoldable pub beginWalked : (octets four : List ℕ) (total lent : ℕ) → Linked
+beginWalked octets four total lent =
+    let read : RecordRead = frontRead octets in
+    pick (wrong walkLength octets) (unchanged notRecord octets [])
+    (onDone (read .answer) (walkedBy (stepped (beginStep longestPlain farthest (read .link) four total lent)))
+    (unchanged (read .answer) (closedOctets octets) []))

@@ -1,13 +1,15 @@
 // What a concentrator written in C calls, over numbers and octets; include/udukemb.h says the same to C.
 ghost use mathlib.Core.Path.{_≡_};
-ghost use lib.ListN.{length};
+ghost use mathlib.Core.List.{_++_};
+ghost use lib.ListN.{length, take, replicate};
 ghost use mathlib.Core.Bool.{true, false};
 ghost use Rattle.answer.specs.Answer.{done, firstOf};
 ghost use Rattle.mschap.specs.Answers.{checkResponseAnswer, checkAuthenticatorAnswer};
 ghost use Rattle.mppe_keys.specs.Answers.{keyAnswer};
 ghost use Rattle.ccp.specs.Reset.{writeResetCode, writeResetOut};
 ghost use Rattle.mppe_record.specs.Record.{recordLength, recordOctets};
-ghost use Rattle.host.specs.Host.{given, checkOf, ntResponseGiven, authenticatorStringGiven, roleOf, directionOf, baseKeyGiven, bindingKeyGiven, startKeyFrom, masterKeyFrom, credentialRows, startKeyGiven, choiceOctets, allowedOf, optionGiven, optionReply, choiceReply, noReply, newLinkGiven, sealLinked, openLinked, openedBy, resetLinked};
+ghost use Rattle.mppe_walk.specs.Walk.{walkLength, walkOctets};
+ghost use Rattle.host.specs.Host.{given, checkOf, ntResponseGiven, authenticatorStringGiven, roleOf, directionOf, baseKeyGiven, bindingKeyGiven, startKeyFrom, masterKeyFrom, credentialRows, startKeyGiven, choiceOctets, allowedOf, optionGiven, optionReply, choiceReply, noReply, newLinkGiven, sealLinked, openLinked, openedBy, resetLinked, closedOctets, beginWalked, feedWalked, endWalked};
 use ccp::Choice;
 use ccp::Strengths;
 use mppe::Link;
@@ -16,11 +18,14 @@ use mppe_keys::Role;
 use mppe_keys::Strength;
 use mppe_keys::is_stateful;
 use mppe_keys::mode_if;
+use mppe_pieces::Walk;
 use mppe_record::bits_of;
 use mppe_record::no_strength;
 use mppe_record::read_record;
 use mppe_record::record_octets;
 use mppe_record::strength_of;
+use mppe_walk::read_walk;
+use mppe_walk::walk_octets;
 use mschap::Checked;
 
 // The number answered, and whether what was received is what it must be; a refusal is a no.
@@ -277,6 +282,73 @@ pub extern "C" fn udukemb_write_reset(identifier: u8, out: &mut [u8]) -> u8
     ccp::write_reset(identifier, out)
 }
 
+// Begins to open a packet in pieces with the record in front of a walk's lent octets.
+#[no_mangle]
+pub extern "C" fn udukemb_begin(walk: &mut [u8], front: &[u8], total: usize, room: usize) -> Opened
+    ensures { λ r. ⌜ (r ≡ openedBy (beginWalked (now (walk .entry)) (now (front .entry)) total room))
+        × (now (walk .exit) ≡ beginWalked (now (walk .entry)) (now (front .entry)) total room .octets) ⌝ }
+{
+    if walk.len() != mppe_walk::WALK_LENGTH {
+        return Opened {
+            answer: answer::RECORD,
+            changes: 0,
+        };
+    }
+    let read = read_record(&walk[..mppe_record::RECORD_LENGTH]);
+    if read.answer != answer::DONE {
+        close_walk(walk);
+        return Opened {
+            answer: read.answer,
+            changes: 0,
+        };
+    }
+    let link = read.link;
+    let begun = Walk::begin(link, front, total, room);
+    put_walk(begun.walk, walk);
+    Opened {
+        answer: begun.answer,
+        changes: begun.changes,
+    }
+}
+
+// Opens the next piece of a packet with the walk in lent octets.
+#[no_mangle]
+pub extern "C" fn udukemb_feed(walk: &mut [u8], piece: &[u8], out: &mut [u8]) -> u8
+    ensures { λ r. ⌜ (r ≡ feedWalked (now (walk .entry)) (now (piece .entry)) (now (out .entry)) .code)
+        × (now (walk .exit) ≡ feedWalked (now (walk .entry)) (now (piece .entry)) (now (out .entry)) .octets)
+        × (now (out .exit) ≡ feedWalked (now (walk .entry)) (now (piece .entry)) (now (out .entry)) .buffer) ⌝ }
+{
+    let read = read_walk(walk);
+    if read.answer != answer::DONE {
+        return read.answer;
+    }
+    let held = read.walk;
+    let fed = held.feed(piece, out);
+    put_walk(fed.walk, walk);
+    fed.answer
+}
+
+// Ends the walk in lent octets.
+#[no_mangle]
+pub extern "C" fn udukemb_end(walk: &mut [u8]) -> Opened
+    ensures { λ r. ⌜ (r ≡ openedBy (endWalked (now (walk .entry)))) × (now (walk .exit) ≡ endWalked (now (walk .entry)) .octets) ⌝ }
+{
+    let read = read_walk(walk);
+    if read.answer != answer::DONE {
+        return Opened {
+            answer: read.answer,
+            changes: 0,
+        };
+    }
+    let held = read.walk;
+    let ended = held.end();
+    put_walk(ended.walk, walk);
+    Opened {
+        answer: ended.answer,
+        changes: ended.changes,
+    }
+}
+
 // Writes a result into the front of a lent buffer, where it came with 0 and has room.
 fn give(code: u8, result: &[u8], out: &mut [u8]) -> u8
     ensures { λ r. ⌜ (r ≡ given code (now (result .entry)) (now (out .entry)) .code)
@@ -395,4 +467,21 @@ fn put_record(link: Link, link_record: &mut [u8])
 {
     let octets = record_octets(link);
     octets::copy(&octets, link_record);
+}
+
+// Writes a walk over the octets of another.
+fn put_walk(held: Walk, walk: &mut [u8])
+    requires { ⌜ length (now walk) ≡ walkLength ⌝ }
+    ensures { λ _. ⌜ now (walk .exit) ≡ walkOctets held ⌝ }
+{
+    let octets = walk_octets(held);
+    octets::copy(&octets, walk);
+}
+
+// Closes a walk whose record cannot be read: zeros behind the record.
+fn close_walk(walk: &mut [u8])
+    requires { ⌜ length (now walk) ≡ walkLength ⌝ }
+    ensures { λ _. ⌜ now (walk .exit) ≡ closedOctets (now (walk .entry)) ⌝ }
+{
+    octets::copy_at(&[0u8; 282], mppe_record::RECORD_LENGTH, walk);
 }

@@ -1,6 +1,6 @@
 use borrow.Author.Needs.{needs}
 use native.Mathlib.Omega.{arith}
-use Rattle.host.proofs.Laws.{record-put}
+use Rattle.host.proofs.Laws.{put-over}
 use Rattle.host.proofs.put_record.Statement.{statement}
 use Rattle.host.proofs.put_record.Tie as tie
 
@@ -21,7 +21,7 @@ returns c =
     let copied = c .before .before in
     let made = copied .before .before .before in
     let lent = made .before .before .args .link-record .now in
-    record-put _ lent (made .record-octets .ensures) (copied .copy .ensures) (omega arith) (omega arith)
+    put-over _ lent (made .record-octets .ensures) (copied .copy .ensures) (omega arith)
 
 pub put-record-spec : {M : Type 1} → statement M
 put-record-spec =
