@@ -345,8 +345,7 @@ UDUKEMB_MUST_USE uint8_t udukemb_write_reset(
  * Answers: 7 record, `walk` is not 577 octets that begin with a well formed record; 1 shape, `front` or the data have
  * another length, or `front` does not begin with 00 FD; 5 flags, 6 repeat, 10 late, 11 waiting, all as for
  * `udukemb_open`, and 11 moves the record in the same way; 2 room, `room` is less than `total`. Each of these closes
- * the walk, but for a 7 where `walk` is not 577 octets, or has no strength, mode or mark in its record: that changes
- * nothing.
+ * the walk, but for a 7 where `walk` is not 577 octets: that changes nothing.
  */
 UDUKEMB_MUST_USE struct udukemb_opened udukemb_begin(
     uint8_t *walk, size_t walk_len,

@@ -928,7 +928,7 @@ opened oracle_begin(buffer walk, part front, size_t total, size_t room)
     opened result = {RECORD, 0};
     octet next[RECORD_OCTETS], state[RC4_STATE];
 
-    if (walk.n != WALK_OCTETS || !readable(walk.at))
+    if (walk.n != WALK_OCTETS)
         return result;
     result.number = front_number((buffer){walk.at, RECORD_OCTETS}, front, total, room);
     close_walk(walk.at);
