@@ -31,18 +31,18 @@
  * memcpy and memset take:
  *       udukemb_authenticator_string    1200
  *       udukemb_base_key                 200
- *       udukemb_begin                      ?
+ *       udukemb_begin                   3000
  *       udukemb_binding_key             1600
  *       udukemb_check_authenticator     1200
  *       udukemb_check_response          2800
- *       udukemb_end                        ?
- *       udukemb_feed                       ?
- *       udukemb_new_link                2000
+ *       udukemb_end                     3000
+ *       udukemb_feed                    4700
+ *       udukemb_new_link                 900
  *       udukemb_nt_response             2800
- *       udukemb_open                    4300
+ *       udukemb_open                    4100
  *       udukemb_option_reply             200
  *       udukemb_reset                   1300
- *       udukemb_seal                    4600
+ *       udukemb_seal                    3700
  *       udukemb_start_key                900
  *       udukemb_write_reset              200
  */
