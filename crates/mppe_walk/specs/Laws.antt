@@ -1,11 +1,12 @@
 -- What holds of walks as octets.
 use mathlib.Core.Path.{_≡_, refl, sym, ap, _∙_}
 use mathlib.Core.Bool.{Bool, true, false, not, true≢false}
+use mathlib.Core.Logic.{_≢_}
 use mathlib.Core.List.{List, [], _∷_, _++_, append-assoc}
-use Prim.Native.Nat.{ℕ, zero, suc, _+_, _/_, _%_, _^_, _<_}
+use Prim.Native.Nat.{ℕ, zero, suc, _+_, _-_, _/_, _%_, _^_, _<_}
 use native.Mathlib.Omega.{arith}
 use lib.Dec.{eqb}
-use lib.ListN.{length, take, drop, getD, length-append, take-append-drop, drop-of-length-le}
+use lib.ListN.{length, take, drop, getD, length-append, replicate, take-append-drop, drop-of-length-le}
 use lib.Seq.{take-at, drop-at, drop-drop, take-add, drop-cons, getD-drop}
 use borrow.Author.Tests.{eq-eqb, eqb-true}
 use Rattle.answer.specs.Answer.{done, notRecord, firstOf, onDone}
@@ -13,9 +14,11 @@ use Rattle.answer.specs.Laws.{clear, right-length}
 use Rattle.octets.specs.Octets.{bigEndian, pairAt}
 use Rattle.rc4.specs.Cipher.{box}
 use Rattle.rc4.specs.Permutation.{Sized as StateSized}
-use Rattle.mppe_record.specs.Record.{yesNumber, noChoice, recordOctets, recordRead}
+use Rattle.mppe_record.specs.Record.{yesNumber, noChoice, recordLength, recordOctets, recordRead}
 use Rattle.mppe_record.specs.Laws.{yes-back, yes-known, pair-back, choice-is, Sized as LinkSized, recordOctets-length, reads-back as record-back, Octets, writes-back as record-kept}
+use Rattle.mppe.specs.declared.Link.{Link}
 use Rattle.mppe_pieces.specs.declared.Walk.{Walk}
+use Rattle.mppe_pieces.specs.Walk.{over}
 use Rattle.mppe_walk.specs.declared.WalkRead.{WalkRead}
 use Rattle.mppe_walk.specs.Walk.{keyOctets, stateOctets, fedOctets, walkLength, walkOctets, frontRead, walkIn, walkRows, noWalk, walkRead}
 
@@ -38,26 +41,21 @@ walkOctets-length w h =
     simp length-append (omega (arith, recordOctets-length (w .link) (h .0), keyOctets-length w h, stateOctets-length w h))
 
 -- .. what stands in front, and what behind the record, behind the session key and behind the cells ..
+abbrev behind : Walk → List ℕ
+behind w = keyOctets w ++ (stateOctets (w .state) ++ fedOctets w)
+
+parts : (w : Walk) → walkOctets w ≡ recordOctets (w .link) ++ behind w
+unfolding walkOctets
+parts w =
+    append-assoc (recordOctets (w .link) ++ keyOctets w) (stateOctets (w .state)) (fedOctets w)
+    ∙ append-assoc (recordOctets (w .link)) (keyOctets w) (stateOctets (w .state) ++ fedOctets w)
+
 module _ (w : Walk) (h : Sized w) where
-  front : List ℕ
-  front = recordOctets (w .link)
-
-  behind : List ℕ
-  behind = keyOctets w ++ (stateOctets (w .state) ++ fedOctets w)
-
-  parts : walkOctets w ≡ front ++ behind
-  unfolding walkOctets front behind
-  parts =
-      append-assoc (recordOctets (w .link) ++ keyOctets w) (stateOctets (w .state)) (fedOctets w)
-      ∙ append-assoc (recordOctets (w .link)) (keyOctets w) (stateOctets (w .state) ++ fedOctets w)
-
   in-front : take 295 (walkOctets w) ≡ recordOctets (w .link)
-  unfolding front
-  in-front = ap (take 295) parts ∙ take-at front behind 295 (recordOctets-length (w .link) (h .0))
+  in-front = ap (take 295) (parts w) ∙ take-at (recordOctets (w .link)) (behind w) 295 (recordOctets-length (w .link) (h .0))
 
-  from-295 : drop 295 (walkOctets w) ≡ keyOctets w ++ (stateOctets (w .state) ++ fedOctets w)
-  unfolding front behind
-  from-295 = ap (drop 295) parts ∙ drop-at front behind 295 (recordOctets-length (w .link) (h .0))
+  from-295 : drop 295 (walkOctets w) ≡ behind w
+  from-295 = ap (drop 295) (parts w) ∙ drop-at (recordOctets (w .link)) (behind w) 295 (recordOctets-length (w .link) (h .0))
 
   from-314 : drop 314 (walkOctets w) ≡ stateOctets (w .state) ++ fedOctets w
   from-314 =
@@ -67,7 +65,7 @@ module _ (w : Walk) (h : Sized w) where
   from-572 = sym (drop-drop 258 314 (walkOctets w)) ∙ ap (drop 258) from-314 ∙ drop-at (stateOctets (w .state)) (fedOctets w) 258 (stateOctets-length w h)
 
   -- .. so that each field is found in its place
-  at-295 : (i : ℕ) → getD (walkOctets w) (295 + i) 0 ≡ getD (keyOctets w ++ (stateOctets (w .state) ++ fedOctets w)) i 0
+  at-295 : (i : ℕ) → getD (walkOctets w) (295 + i) 0 ≡ getD (behind w) i 0
   at-295 i = sym (getD-drop 295 (walkOctets w) i 0) ∙ ap (λ t. getD t i 0) from-295
 
   at-314 : (i : ℕ) → getD (walkOctets w) (314 + i) 0 ≡ getD (stateOctets (w .state) ++ fedOctets w) i 0
@@ -194,9 +192,29 @@ whole : {front key state fed : List ℕ} (octets : List ℕ) → front ≡ take 
     → state ≡ take 258 (drop 314 octets) → fed ≡ drop 572 octets → front ++ key ++ state ++ fed ≡ octets
 whole octets ef ek es el = rw (ef, ek, es, el, ← take-add 295 19 octets, ← take-add 314 258 octets) (take-append-drop 572 octets)
 
+pub front-kept : (octets : List ℕ) → Octets octets → walkRead octets .answer ≡ done → recordOctets (walkRead octets .walk .link) ≡ take recordLength octets
+front-kept octets all ok =
+    let (long, front, live, walk) = read-known octets ok in
+    ap (λ (w : Walk). recordOctets (w .link)) walk ∙ unfold walkIn in record-kept (take recordLength octets) (in-front-octets recordLength octets all) front
+
 pub writes-back : (octets : List ℕ) → Octets octets → walkRead octets .answer ≡ done → walkOctets (walkRead octets .walk) ≡ octets
 unfolding walkOctets
 writes-back octets all ok =
     let (long, front, live, walk) = read-known octets ok in
-    let first : recordOctets (walkIn octets .link) ≡ take 295 octets = unfold walkIn in record-kept (take 295 octets) (in-front-octets 295 octets all) front in
+    let first = sym (ap (λ (w : Walk). recordOctets (w .link)) walk) ∙ front-kept octets all ok in
     ap walkOctets walk ∙ whole octets first (key-kept octets all long live) (state-kept octets long) (fed-kept octets all long)
+
+-- octets that hold no walk are refused with 7
+pub read-refused : (octets : List ℕ) → walkRead octets .answer ≢ done → walkRead octets .answer ≡ notRecord
+unfolding walkRead
+read-refused octets = go (firstOf (walkRows octets))
+  where
+    go : (code : ℕ) → onDone code (record { answer = done; walk = walkIn octets }) noWalk .answer ≢ done
+        → onDone code (record { answer = done; walk = walkIn octets }) noWalk .answer ≡ notRecord
+    go zero h = absurd (h refl)
+    go (suc n) h = refl
+
+-- a walk that is over is its record and zeros behind it
+pub over-octets : (l : Link) → walkOctets (over l) ≡ recordOctets l ++ replicate (walkLength - recordLength) 0
+unfolding keyOctets stateOctets fedOctets over
+over-octets l = parts (over l)
