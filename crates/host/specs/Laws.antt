@@ -2,21 +2,28 @@
 use mathlib.Core.Path.{_≡_, refl, sym, ap, _∙_}
 use mathlib.Core.Bool.{Bool, true, false}
 use mathlib.Core.Logic.{_≢_}
-use mathlib.Core.List.{List, [], append-nil}
-use Prim.Native.Nat.{ℕ, zero, suc, _≤_}
+use mathlib.Core.List.{List, [], _++_, append-nil}
+use Prim.Native.Nat.{ℕ, zero, suc, _-_, _≤_}
 use native.Mathlib.Omega.{arith}
 use lib.Dec.{eqb}
-use lib.ListN.{length, drop-of-length-le}
+use lib.ListN.{length, take, replicate, drop-of-length-le}
 use borrow.Author.Tests.{le-ltb}
-use Rattle.answer.specs.Answer.{done, strength, waiting, pick, onDone}
+use Rattle.answer.specs.Answer.{done, shape, notRecord, strength, waiting, pick, onDone}
+use Rattle.answer.specs.Laws.{right}
 use Rattle.mppe_keys.specs.declared.Strength.{Strength}
 use Rattle.mppe_keys.specs.Keys.{byMode, modeIf}
 use Rattle.mppe.specs.declared.Link.{Link}
+use Rattle.mppe.specs.declared.Outcome.{Outcome}
 use Rattle.mppe.specs.Link.{Result, longestPlain, farthest, newLink, newLinkCode, withBox, headerIn, refusal, sealCode, sealResult, waited, openCode, openResult, resetCode, resetOutcome}
 use Rattle.mppe.specs.Laws.{report-bound}
 use Rattle.mppe_record.specs.Record.{strengthOf, noStrength, recordLength, recordOctets, recordRead}
 use Rattle.mppe_record.specs.Laws.{Sized, Octets, recordOctets-length, reads-back, writes-back, new-sized}
-use Rattle.host.specs.Host.{Given, Linked, given, newLinkGiven, linkedBy, unchanged, linked, sealLinked, openLinked, resetLinked}
+use Rattle.mppe_pieces.specs.declared.Walk.{Walk}
+use Rattle.mppe_pieces.specs.declared.Step.{Step}
+use Rattle.mppe_pieces.specs.Walk.{Fed, over, overWith, onWith, walkOf, unbegun, beginCode, beginStep, closes, walkAfter, bufferAfter, feedCode, feedResult, endCode, endStep}
+use Rattle.mppe_walk.specs.Walk.{walkLength, walkOctets, frontRead, walkRead}
+use Rattle.mppe_walk.specs.Laws.{in-front-octets, front-kept, writes-back as walk-back, read-refused, over-octets}
+use Rattle.host.specs.Host.{Given, Linked, given, newLinkGiven, linkedBy, unchanged, linked, sealLinked, openLinked, resetLinked, walkedBy, stepped, walked, feedWalked, endWalked, closedOctets, beginWalked}
 
 -- a call on the octets of a record is the call on that record
 pub linked-on : (call : Link → Result) (l : Link) (out : List ℕ) → Sized l → linked call (recordOctets l) out ≡ linkedBy (call l)
@@ -115,6 +122,123 @@ open-refused octets packet out all not0 not11 =
                 → pick t w (refusal (suc n) l out) ≡ refusal (pick t w (refusal (suc n) l out) .outcome .answer) l out
             by true not11 = absurd (not11 e′)
             by false not11 = refl
+
+-- a refused call on a walk leaves it, or closes it by some of its numbers ..
+abbrev pub Closes : (closing : ℕ → Bool) → (Walk → Fed) → List ℕ → Type 0
+Closes closing call out =
+    (w : Walk) → call w .step .answer ≢ done
+    → call w ≡ record { step = onWith (call w .step .answer) (pick (closing (call w .step .answer)) (over (w .link)) w); buffer = out }
+
+-- .. and on the walk in lent octets it leaves them, or all but the record become 0; the buffer stays
+pub walked-refused : (closing : ℕ → Bool) (call : Walk → Fed) (octets out : List ℕ) → closing notRecord ≡ false → Closes closing call out → Octets octets
+    → walked call octets out .code ≢ done
+    → walked call octets out ≡ unchanged (walked call octets out .code) (pick (closing (walked call octets out .code)) (closedOctets octets) octets) out
+unfolding walked
+walked-refused closing call octets out stays refuses all = go (walkRead octets .answer) refl
+  where
+    held : Walk
+    held = walkRead octets .walk
+
+    made : ℕ → Linked
+    made code = onDone code (walkedBy (call held)) (unchanged code octets out)
+
+    left : walkRead octets .answer ≡ done → (t : Bool) → walkOctets (pick t (over (held .link)) held) ≡ pick t (closedOctets octets) octets
+    left e true = over-octets (held .link) ∙ ap (λ f. f ++ replicate (walkLength - recordLength) 0) (front-kept octets all e)
+    left e false = walk-back octets all e
+
+    go : (code : ℕ) → walkRead octets .answer ≡ code → made code .code ≢ done
+        → made code ≡ unchanged (made code .code) (pick (closing (made code .code)) (closedOctets octets) octets) out
+    go zero e not0 =
+        ap walkedBy (refuses held not0)
+        ∙ ap (λ o. unchanged (call held .step .answer) o out) (left e (closing (call held .step .answer)))
+    go (suc n) e not0 =
+        let code : suc n ≡ notRecord = sym e ∙ read-refused octets (λ z. not0 (sym e ∙ z)) in
+        ap (λ t. unchanged (suc n) (pick t (closedOctets octets) octets) out) (sym (ap closing code ∙ stays))
+
+-- "A piece beyond the total is 3, .. these and a 4 close the walk"; 7 and 2 change nothing
+pub feed-refused : (octets piece out : List ℕ) → Octets octets → feedWalked octets piece out .code ≢ done
+    → feedWalked octets piece out
+    ≡ unchanged (feedWalked octets piece out .code) (pick (closes (feedWalked octets piece out .code)) (closedOctets octets) octets) out
+unfolding feedWalked
+feed-refused octets piece out = walked-refused closes (λ w. feedResult longestPlain farthest w piece out) octets out refl each
+  where
+    each : Closes closes (λ w. feedResult longestPlain farthest w piece out) out
+    each w = unfold feedResult in refuses (feedCode longestPlain farthest w piece (length out))
+      where
+        made : ℕ → Fed
+        made code =
+            record {
+              step = onDone code (onWith done (walkAfter w piece)) (onWith code (pick (closes code) (over (w .link)) w));
+              buffer = onDone code (bufferAfter w piece out) out;
+            }
+
+        refuses : (code : ℕ) → made code .step .answer ≢ done
+            → made code ≡ record { step = onWith (made code .step .answer) (pick (closes (made code .step .answer)) (over (w .link)) w); buffer = out }
+        refuses zero not0 = absurd (not0 refl)
+        refuses (suc n) not0 = refl
+
+-- "an end before it is 1", and closes the walk; 7 changes nothing
+abbrev early : ℕ → Bool
+early code = eqb code shape
+
+pub end-refused : (octets : List ℕ) → Octets octets → endWalked octets .code ≢ done
+    → endWalked octets ≡ unchanged (endWalked octets .code) (pick (eqb (endWalked octets .code) shape) (closedOctets octets) octets) []
+unfolding endWalked
+end-refused octets = walked-refused early (λ w. stepped (endStep longestPlain farthest w)) octets [] refl each
+  where
+    each : Closes early (λ w. stepped (endStep longestPlain farthest w)) []
+    each w = unfold endStep in refuses (endCode longestPlain farthest w) _ refl
+      where
+        refuses : (code : ℕ) (r : Step) → r .answer ≡ done
+            → let s : Step = onDone code r (onWith code (pick (early code) (over (w .link)) w)) in
+            s .answer ≢ done → stepped s ≡ stepped (onWith (s .answer) (pick (early (s .answer)) (over (w .link)) w))
+        refuses zero r e not0 = absurd (not0 e)
+        refuses (suc n) r e not0 = refl
+
+-- "a refused begin gives a closed walk", but for 11, which moves the record: on records ..
+begin-closes : (l : Link) (four : List ℕ) (total lent : ℕ)
+    → let s : Step = beginStep longestPlain farthest l four total lent in
+    s .answer ≢ done → s .answer ≢ waiting → s ≡ onWith (s .answer) (over l)
+unfolding beginStep
+begin-closes l four total lent = by (beginCode longestPlain farthest l four total lent)
+  where
+    step : ℕ → Step
+    step code = onDone code (onWith done (walkOf l (headerIn four) total)) (overWith (unbegun code l (headerIn four)))
+
+    by : (code : ℕ) → step code .answer ≢ done → step code .answer ≢ waiting → step code ≡ onWith (step code .answer) (over l)
+    by zero not0 not11 = absurd (not0 refl)
+    by (suc n) not0 not11 = at (eqb (suc n) waiting) not11
+      where
+        end : Bool → Outcome
+        end t = pick t (waited l (headerIn four) [] .outcome) (refusal (suc n) l [] .outcome)
+
+        at : (t : Bool) → end t .answer ≢ waiting → overWith (end t) ≡ onWith (end t .answer) (over l)
+        at true not11 = absurd (not11 refl)
+        at false not11 = refl
+
+-- .. and on the record in front of lent octets, also where there is none
+pub begin-refused : (octets four : List ℕ) (total lent : ℕ) → Octets octets → length octets ≡ walkLength
+    → beginWalked octets four total lent .code ≢ done → beginWalked octets four total lent .code ≢ waiting
+    → beginWalked octets four total lent ≡ unchanged (beginWalked octets four total lent .code) (closedOctets octets) []
+unfolding beginWalked
+begin-refused octets four total lent all long = rw (right walkLength octets long) (go (frontRead octets .answer) refl)
+  where
+    held : Link
+    held = frontRead octets .link
+
+    begun : Step
+    begun = beginStep longestPlain farthest held four total lent
+
+    made : ℕ → Linked
+    made code = onDone code (walkedBy (stepped begun)) (unchanged code (closedOctets octets) [])
+
+    go : (code : ℕ) → frontRead octets .answer ≡ code → made code .code ≢ done → made code .code ≢ waiting
+        → made code ≡ unchanged (made code .code) (closedOctets octets) []
+    go zero e not0 not11 =
+        let kept = writes-back (take recordLength octets) (in-front-octets recordLength octets all) e in
+        ap (λ (s : Step). walkedBy (stepped s)) (begin-closes held four total lent not0 not11)
+        ∙ ap (λ o. unchanged (begun .answer) o []) (over-octets held ∙ ap (λ f. f ++ replicate (walkLength - recordLength) 0) kept)
+    go (suc n) e not0 not11 = refl
 
 -- no report is above the farthest distance, whatever the record's octets and the packet are
 pub open-report-bound : (octets packet out : List ℕ) → openLinked octets packet out .changed ≤ farthest

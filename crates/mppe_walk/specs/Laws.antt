@@ -182,7 +182,7 @@ fed-kept octets all h =
     ∙ sym (next octets 572 (omega arith) four)
 
 -- .. and with the record all of them
-in-front-octets : (n : ℕ) (l : List ℕ) → Octets l → Octets (take n l)
+pub in-front-octets : (n : ℕ) (l : List ℕ) → Octets l → Octets (take n l)
 in-front-octets zero l all i = omega arith
 in-front-octets (suc n) [] all i = omega arith
 in-front-octets (suc n) (x ∷ l) all zero = all 0
