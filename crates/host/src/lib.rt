@@ -1,7 +1,6 @@
 // What a concentrator written in C calls, over numbers and octets; include/udukemb.h says the same to C.
 ghost use mathlib.Core.Path.{_≡_};
-ghost use mathlib.Core.List.{_++_};
-ghost use lib.ListN.{length, take, replicate};
+ghost use lib.ListN.{length};
 ghost use mathlib.Core.Bool.{true, false};
 ghost use Rattle.answer.specs.Answer.{done, firstOf};
 ghost use Rattle.mschap.specs.Answers.{checkResponseAnswer, checkAuthenticatorAnswer};

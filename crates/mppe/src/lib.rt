@@ -26,17 +26,17 @@ pub const LONGEST_PLAIN: usize = 1498;
 // The octets before a sealed packet's data.
 pub const FRONT: usize = 4;
 // The protocol number of a sealed packet.
-const SEALED: u16 = 0x00FD;
+pub const SEALED: u16 = 0x00FD;
 // The lowest and the highest protocol number that is carried.
 const LOWEST_PROTOCOL: u16 = 0x0021;
 
 const HIGHEST_PROTOCOL: u16 = 0x00FA;
 // The header's bits A and D.
-const BIT_A: u16 = 0x8000;
+pub const BIT_A: u16 = 0x8000;
 
 const BIT_D: u16 = 0x1000;
 // How many counts there are.
-const COUNTS: u16 = 4096;
+pub const COUNTS: u16 = 4096;
 // The farthest that a packet's count may be ahead of the last one.
 pub const FARTHEST: u16 = 2048;
 // The count of a new link, so that the first packet carries 0.

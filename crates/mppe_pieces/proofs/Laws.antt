@@ -9,10 +9,10 @@ use lib.Bits.{bitXor}
 use lib.Dec.{eqb, ltb, leb}
 use lib.ListN.{length, take, drop, getD, set, drop-of-length-le, length-drop}
 use lib.Seq.{take-all, drop-drop, length-take-le}
-use borrow.Author.Tests.{lt-ltb, le-ltb, le-leb, lt-leb, eq-eqb, ne-eqb, ltb-true, ltb-false, eqb-true, not-true, not-false}
+use borrow.Author.Tests.{lt-ltb, le-ltb, le-leb, lt-leb, ne-eqb, ltb-true, ltb-false, eqb-true, not-true, not-false}
 use borrow.Rule.Slice.PartMut.{putMid}
 use Rattle.answer.specs.Answer.{done, shape, room, size, protocol, notRecord, waiting, pick, outside, wrong, firstOf, onDone}
-use Rattle.answer.specs.Laws.{both, clear, never, rows-pass, rows-stop, not-done, within}
+use Rattle.answer.specs.Laws.{both, clear, rows-pass, rows-stop, within}
 use Rattle.octets.specs.Octets.{pairAt, written, writtenAt, longestText}
 use Rattle.rc4.specs.declared.Rc4.{Rc4}
 use Rattle.rc4.specs.declared.Ran.{Ran}
@@ -25,11 +25,11 @@ use Rattle.mppe_keys.specs.Answers.{placedChanges, placedCipher}
 use Rattle.mppe_keys.specs.Laws.{key-most, changes-length}
 use Rattle.mppe.specs.declared.Link.{Link}
 use Rattle.mppe.specs.declared.Judged.{Judged}
-use Rattle.mppe.specs.Link.{shortestPlain, longestPlain, front, farthest, wellFormed, startKeyIn, sessionKeyIn, offProtocol, headerIn, countOf, bitA, lacks, keptBox, changesFor, keyFor, boxFor, stateFor, waited, refusal, headerRows, judgedRows, judged}
+use Rattle.mppe.specs.Link.{shortestPlain, longestPlain, front, farthest, wellFormed, startKeyIn, sessionKeyIn, offProtocol, headerIn, bitA, lacks, changesFor, keyFor, boxFor, stateFor, waited, judgedRows, judged}
 use Rattle.mppe.specs.Laws.{key-back}
 use Rattle.mppe_pieces.specs.declared.Walk.{Walk}
 use Rattle.mppe_pieces.specs.declared.Step.{Step}
-use Rattle.mppe_pieces.specs.Walk.{over, overWith, onWith, beginRows, beginCode, walkOf, unbegun, beginStep, goesOn, opened, early, judgedOff, feedRows, feedCode, movedOn, walkAfter, bufferAfter, closes, feedResult, linkLeft, endCode, endStep}
+use Rattle.mppe_pieces.specs.Walk.{over, overWith, onWith, beginCode, walkOf, beginStep, goesOn, opened, early, judgedOff, feedRows, feedCode, movedOn, walkAfter, bufferAfter, closes, feedResult, linkLeft, endCode, endStep}
 
 -- whether a walk goes on, test by test
 pub goes-dead : (live : Bool) (rest last : Bool) → live ≡ false → false ≡ (live && rest && last)

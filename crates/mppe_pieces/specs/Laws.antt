@@ -9,8 +9,8 @@ use native.Mathlib.Omega.{arith}
 use lib.Dec.{eqb, ltb}
 use lib.ListN.{length, take, drop, getD, length-append, length-drop}
 use lib.Seq.{take-append-seam, drop-append-seam, drop-drop}
-use borrow.Author.Tests.{ltb-true, ltb-false, lt-ltb, le-ltb, ne-eqb, eqb-true, not-true, not-false}
-use Rattle.answer.specs.Answer.{done, shape, room, size, protocol, late, notRecord, waiting, pick, outside, wrong, firstOf, onDone}
+use borrow.Author.Tests.{ltb-true, ltb-false, lt-ltb, le-ltb, ne-eqb, eqb-true, not-false}
+use Rattle.answer.specs.Answer.{done, shape, room, size, protocol, late, notRecord, waiting, pick, outside, firstOf, onDone}
 use Rattle.answer.specs.Laws.{both, clear, rows-pass, rows-stop, rows-passed, within, right-length}
 use Rattle.octets.specs.Octets.{written, writtenAt}
 use Rattle.rc4.specs.declared.Rc4.{Rc4}
@@ -18,10 +18,10 @@ use Rattle.rc4.specs.Cipher.{run, after}
 use Rattle.rc4.specs.Laws.{run-length, run-cut, after-cut}
 use Rattle.mppe_keys.specs.Keys.{placed}
 use Rattle.mppe.specs.declared.Link.{Link}
-use Rattle.mppe.specs.Link.{shortestPlain, front, wellFormed, offProtocol, headerIn, dataIn, changesFor, awayFor, keyFor, stateFor, plainFor, linkAfter, waited, refusal, headerRows, dataRows, openRows, openCode, openedBy, openResult, judgedRows}
+use Rattle.mppe.specs.Link.{shortestPlain, front, wellFormed, offProtocol, headerIn, dataIn, changesFor, awayFor, keyFor, stateFor, plainFor, linkAfter, waited, refusal, headerRows, dataRows, openCode, openedBy, openResult, judgedRows}
 use Rattle.mppe.specs.Laws.{changes-few, after-well}
 use Rattle.mppe_pieces.specs.declared.Walk.{Walk}
-use Rattle.mppe_pieces.specs.Walk.{Fed, over, overWith, onWith, beginRows, beginCode, walkOf, unbegun, beginStep, goesOn, opened, reached, early, judgedOff, feedRows, feedCode, walkAfter, bufferAfter, closes, feedResult, linkLeft, endRows, endCode, endStep}
+use Rattle.mppe_pieces.specs.Walk.{Fed, over, overWith, onWith, beginRows, beginCode, walkOf, unbegun, beginStep, goesOn, opened, reached, early, judgedOff, feedCode, walkAfter, bufferAfter, closes, feedResult, linkLeft, endRows, endCode, endStep}
 use Rattle.mppe_pieces.specs.Pieces.{joined, Left, feedAll, walked, outcomeIn, resultOf, Pieces, Calls}
 
 -- a text that goes on behind its first two octets has the same protocol number

@@ -9,19 +9,19 @@ ghost use Rattle.answer.specs.Answer.{done, shape, notRecord, pick, wrong};
 ghost use Rattle.octets.specs.Octets.{written, pairAt};
 ghost use Rattle.rc4.specs.Cipher.{run};
 ghost use Rattle.mppe_keys.specs.Answers.{placedChanges, placedCipher};
-ghost use Rattle.mppe.specs.Link.{longestPlain, farthest, front as frontLength, wellFormed, offProtocol, bitA, lacks, keptBox, changesFor, waited};
+ghost use Rattle.mppe.specs.Link.{longestPlain, farthest, front as frontLength, shortestPlain, wellFormed, offProtocol, bitA, lacks, keptBox, changesFor, waited};
 ghost use Rattle.mppe_pieces.specs.Walk.{over as overOf, overWith, onWith, walkOf, beginStep, early as earlyOf, judgedOff, feedCode, movedOn, walkAfter, closes, feedResult, linkLeft, endStep};
+use mppe::BIT_A;
+use mppe::COUNTS;
 use mppe::Link;
+use mppe::SEALED;
+use mppe::SHORTEST_PLAIN;
 use mppe_keys::Mode;
 use octets::pair;
 use rc4::Rc4;
 
-// The protocol number of a sealed packet.
-const SEALED: u16 = 0x00FD;
-// The header's bit A.
-const BIT_A: u16 = 0x8000;
-// How many counts there are.
-const COUNTS: u16 = 4096;
+// The octets of a protocol number, with which a plain packet begins.
+const NUMBER: u16 = 2;
 
 // A packet that is being opened in pieces. Until a good end `link` is the record that begin got. `header` is the packet's, `session` its
 // session key, `state` RC4's after the octets fed, `total` the length of the data, `fed` how many of them were fed, `first` the first
@@ -337,17 +337,17 @@ fn feed_code(walk: Walk, piece: &[u8], room: usize) -> u8
 fn early(fed: u16, more: usize) -> bool
     ensures { λ r. ⌜ r ≡ earlyOf (fed + more) ⌝ }
 {
-    if 2 <= fed {
+    if NUMBER <= fed {
         return false;
     }
-    more < 2 - fed as usize
+    more < (NUMBER - fed) as usize
 }
 
 // Whether a piece brings the second protocol octet, and the number of both is one that is not carried.
 fn judged_off(walk: Walk, piece: &[u8]) -> bool
     ensures { λ r. ⌜ r ≡ judgedOff walk (now (piece .entry)) ⌝ }
 {
-    if 2 <= walk.fed {
+    if NUMBER <= walk.fed {
         return false;
     }
     if early(walk.fed, piece.len()) {
@@ -363,17 +363,17 @@ fn judged_off(walk: Walk, piece: &[u8]) -> bool
 
 // Whether the protocol number of a text that RC4's state opens is one that is not carried.
 fn runs_off_protocol(state: Rc4, text: &[u8]) -> bool
-    requires { ⌜ 2 ≤ length (now text) ⌝ }
+    requires { ⌜ shortestPlain ≤ length (now text) ⌝ }
     ensures { λ r. ⌜ r ≡ offProtocol (run state (now (text .entry))) ⌝ }
 {
-    let mut plain = [0u8; 2];
-    state.run(&text[..2], &mut plain);
+    let mut plain = [0u8; SHORTEST_PLAIN];
+    state.run(&text[..SHORTEST_PLAIN], &mut plain);
     mppe::off_protocol(plain[0], plain[1])
 }
 
 // The walk after a piece that leaves the first protocol octet alone, or none: nothing is written.
 fn kept(walk: Walk, piece: &[u8]) -> Step
-    requires { ⌜ walk .fed + length (now piece) < 2 ⌝ }
+    requires { ⌜ walk .fed + length (now piece) < shortestPlain ⌝ }
     ensures { λ r. ⌜ r ≡ onWith done (walkAfter walk (now (piece .entry))) ⌝ }
 {
     let mut plain = [0u8; 1];

@@ -356,7 +356,8 @@ fn next_place(k: usize, n: usize) -> usize
     if k + 1 == n { 0 } else { k + 1 }
 }
 
-// A text within its limit, xored with the draws, into a buffer with room for it; the state after it. The cells are read behind the zeros, which saves a copy.
+// A text within its limit, xored with the draws, into a buffer with room for it; the state after it. The cells are read behind the zeros,
+// which saves a copy.
 fn run_text(state: Rc4, text: &[u8], out: &mut [u8]) -> Rc4
     requires { ⌜ (length (now text) ≤ longestText) × (length (now text) ≤ length (now out)) ⌝ }
     ensures { λ r. ⌜ (r ≡ after state (now (text .entry)))
