@@ -37,13 +37,14 @@ use Rattle.mppe.specs.declared.Outcome.{Outcome}
 use Rattle.mppe.specs.Link.{Result, longestPlain, farthest, newLink}
 use Rattle.mppe_record.specs.declared.RecordRead.{RecordRead}
 use Rattle.mppe_record.specs.Record.{strengthOf, noStrength, recordLength, recordOctets, recordRead}
-use Rattle.mppe_record.specs.Laws.{read-length}
+use Rattle.mppe_record.specs.Laws.{read-length, Octets}
 use Rattle.mppe_pieces.specs.declared.Walk.{Walk}
 use Rattle.mppe_pieces.specs.declared.Step.{Step}
-use Rattle.mppe_pieces.specs.Walk.{Fed, beginStep}
+use Rattle.mppe_pieces.specs.Walk.{Fed, beginStep, feedResult}
+use Rattle.mppe_pieces.specs.Laws.{calls}
 use Rattle.mppe_walk.specs.declared.WalkRead.{WalkRead}
-use Rattle.mppe_walk.specs.Walk.{walkLength, walkOctets, frontRead, walkRead}
-use Rattle.mppe_walk.specs.Laws.{read-length as read-walk-length}
+use Rattle.mppe_walk.specs.Walk.{walkLength, walkOctets, restPut, frontRead, walkRead}
+use Rattle.mppe_walk.specs.Laws.{read-length as read-walk-length, rest-written}
 use Rattle.host.specs.declared.Reply.{Reply}
 use Rattle.host.specs.declared.Opened.{Opened}
 use Rattle.host.specs.Host.{Given, Linked, given, roleOf, directionOf, startKeyFrom, masterKeyFrom, credentialRows, startKeyGiven, choiceOctets, optionGiven, optionReply, choiceReply, noReply, replyOf, replyOctets, newLinkGiven, linkedBy, unchanged, linked, openedBy, walkedBy, stepped, walked, closedOctets, beginWalked}
@@ -244,6 +245,19 @@ pub walked-made : {read : WalkRead} {made : Step} {octets′ out′ : List ℕ} 
     → _≡_ {A = Linked} (record { code = made .answer; changed = made .changes; octets = octets′; buffer = out′ }) (walked call octets out)
 unfolding walked
 walked-made call octets out e h w eo = rw (← e, h, eo, w .0, w .1)
+
+-- a feed hands back the record of its walk, so that what stands behind it is all that is written
+pub fed-made : {read : WalkRead} {made : Step} {octets′ out′ : List ℕ} (octets piece out : List ℕ) → Octets octets
+    → read ≡ walkRead octets → read .answer ≡ done
+    → (made ≡ feedResult longestPlain farthest (read .walk) piece out .step) × (out′ ≡ feedResult longestPlain farthest (read .walk) piece out .buffer)
+    → octets′ ≡ restPut (made .walk) octets
+    → _≡_ {A = Linked} (record { code = made .answer; changed = made .changes; octets = octets′; buffer = out′ })
+    (walked (λ w. feedResult longestPlain farthest w piece out) octets out)
+fed-made {read} {made} octets piece out all e h w eo =
+    let ok : walkRead octets .answer ≡ done = sym (ap (λ (r : WalkRead). r .answer) e) ∙ h in
+    let kept = calls longestPlain farthest .fed (read .walk) piece out .0 in
+    let same : made .walk .link ≡ walkRead octets .walk .link = ap (λ (s : Step). s .walk .link) (w .0) ∙ kept ∙ ap (λ (r : WalkRead). r .walk .link) e in
+    walked-made (λ w. feedResult longestPlain farthest w piece out) octets out e h w (eo ∙ rest-written octets (made .walk) all ok same)
 
 -- a walk closed without its record
 pub walk-closed : {out′ : List ℕ} (out : List ℕ) → length out ≡ walkLength → out′ ≡ writtenAt 295 (take (length out - 295) (replicate 282 0)) out

@@ -323,7 +323,7 @@ pub extern "C" fn udukemb_feed(walk: &mut [u8], piece: &[u8], out: &mut [u8]) ->
     }
     let held = read.walk;
     let fed = held.feed(piece, out);
-    put_walk(fed.walk, walk);
+    mppe_walk::put_rest(fed.walk, walk);
     fed.answer
 }
 

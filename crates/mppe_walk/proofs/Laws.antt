@@ -1,16 +1,17 @@
 -- The ways out of the calls.
 use mathlib.Core.Path.{_≡_, refl, sym, ap, _∙_}
 use mathlib.Core.Bool.{true}
-use mathlib.Core.List.{List, [], _∷_, _++_, append-nil}
+use mathlib.Core.List.{List, [], _∷_, _++_, append-nil, append-assoc}
 use Prim.Native.Nat.{ℕ, _+_, _*_, _-_, _/_, _%_, _<_, _≤_}
 use native.Mathlib.Omega.{arith}
 use lib.Dec.{eqb}
-use lib.ListN.{length, take, drop, getD, replicate, length-append, length-drop, length-replicate, drop-of-length-le}
-use lib.Seq.{length-take-le, take-all}
+use lib.ListN.{length, take, drop, getD, replicate, length-append, length-drop, length-replicate, take-append-drop, drop-of-length-le}
+use lib.Seq.{length-take-le, take-all, take-at}
 use borrow.Author.Tests.{eq-eqb, ne-eqb, lt-ltb, le-ltb}
 use Rattle.answer.specs.Answer.{done}
+use Rattle.answer.specs.Laws.{right, not-right}
 use Rattle.octets.specs.Octets.{bigEndian, written, writtenAt}
-use Rattle.octets.specs.Laws.{append-more}
+use Rattle.octets.specs.Laws.{append-more, grown}
 use Rattle.rc4.specs.declared.Rc4.{Rc4}
 use Rattle.mppe.specs.declared.Link.{Link}
 use Rattle.mppe_record.specs.declared.RecordRead.{RecordRead}
@@ -18,7 +19,7 @@ use Rattle.mppe_record.specs.Record.{yesNumber, recordLength, recordOctets}
 use Rattle.mppe_record.specs.Laws.{two-octets}
 use Rattle.mppe_pieces.specs.declared.Walk.{Walk}
 use Rattle.mppe_walk.specs.declared.WalkRead.{WalkRead}
-use Rattle.mppe_walk.specs.Walk.{keyOctets, stateOctets, fedOctets, walkLength, walkOctets, frontRead, walkIn, noWalk, walkRead}
+use Rattle.mppe_walk.specs.Walk.{keyOctets, stateOctets, fedOctets, walkLength, restOctets, walkOctets, restPut, frontRead, walkIn, noWalk, walkRead}
 
 -- a part copied behind another fills what was left
 filled : {t₁ t₂ : List ℕ} (first second : List ℕ) (n : ℕ) → t₁ ≡ first ++ replicate (length second) 0 → length first ≡ n
@@ -38,14 +39,6 @@ key-laid {y} w hh hs ey e₁ e₂ =
     let laid = filled three (w .session) 3 (e₁ ∙ rw hs) refl e₂ in
     (laid ∙ ap (λ t. y ∷ t ++ w .session) (two-octets (w .header) hh) ∙ rw ey, ap length laid ∙ omega arith)
 
--- RC4's state
-pub state-laid : {t₁ t₂ : List ℕ} (s : Rc4) → length (s .cells) ≡ 256 → t₁ ≡ written (take 258 (s .i ∷ s .j ∷ [])) (replicate 258 0)
-    → t₂ ≡ writtenAt 2 (take (length t₁ - 2) (s .cells)) t₁ → (t₂ ≡ stateOctets s) × (length t₂ ≡ 258)
-unfolding stateOctets
-state-laid s h e₁ e₂ =
-    let laid = filled (s .i ∷ s .j ∷ []) (s .cells) 2 (e₁ ∙ rw h) refl e₂ in
-    (laid, ap length laid ∙ omega arith)
-
 -- total, octets fed and the first
 pub fed-laid : (w : Walk) → w .total < 65536 → w .fed < 65536
     → w .total / 256 ∷ w .total % 256 ∷ w .fed / 256 ∷ w .fed % 256 ∷ w .first ∷ [] ≡ fedOctets w
@@ -54,21 +47,53 @@ fed-laid w ht hf =
     ap (λ t. t ++ (w .fed / 256 ∷ w .fed % 256 ∷ w .first ∷ [])) (two-octets (w .total) ht)
     ∙ ap (λ t. bigEndian 2 (w .total) ++ t ++ (w .first ∷ [])) (two-octets (w .fed) hf)
 
--- the whole walk
-pub walk-laid : {front key state fed t₁ t₂ t₃ t₄ : List ℕ} (w : Walk) → front ≡ recordOctets (w .link) → length front ≡ recordLength
-    → (key ≡ keyOctets w) × (length key ≡ 19) → (state ≡ stateOctets (w .state)) × (length state ≡ 258) → fed ≡ fedOctets w
-    → t₁ ≡ written (take 577 front) (replicate 577 0) → t₂ ≡ writtenAt 295 (take (length t₁ - 295) key) t₁
-    → t₃ ≡ writtenAt 314 (take (length t₂ - 314) state) t₂ → t₄ ≡ writtenAt 572 (take (length t₃ - 572) fed) t₃ → t₄ ≡ walkOctets w
-unfolding walkOctets
-walk-laid {front} {key} {state} {fed} {t₁} w ef hf (ek, hk) (es, hs) el e₁ e₂ e₃ e₄ =
+-- what stands behind the record, one part behind the other, and nothing where the octets are not 577
+pub rest-laid : {key fed t₁ t₂ t₃ t₄ : List ℕ} (w : Walk) (octets : List ℕ) → length octets ≡ walkLength → length (w .state .cells) ≡ 256
+    → (key ≡ keyOctets w) × (length key ≡ 19) → fed ≡ fedOctets w → t₁ ≡ writtenAt 295 (take (length octets - 295) key) octets
+    → t₂ ≡ writtenAt 314 (take (length t₁ - 314) (w .state .i ∷ w .state .j ∷ [])) t₁
+    → t₃ ≡ writtenAt 316 (take (length t₂ - 316) (w .state .cells)) t₂ → t₄ ≡ writtenAt 572 (take (length t₃ - 572) fed) t₃ → t₄ ≡ restPut w octets
+unfolding restPut restOctets stateOctets
+rest-laid {key} {fed} w octets h hc (ek, hk) el e₁ e₂ e₃ e₄ =
     let hl : length fed ≡ 5 = ap length el ∙ unfold fedOctets in refl in
+    let front : List ℕ = take 295 octets in
+    let behind : List ℕ = drop 295 octets in
+    let two : List ℕ = w .state .i ∷ w .state .j ∷ [] in
+    let cells : List ℕ = w .state .cells in
+    let hb : length behind ≡ 282 = length-drop 295 octets ∙ omega arith in
+    let hf : length front ≡ 295 = length-take-le 295 octets (omega arith) in
+    let h₁ : length (front ++ key) ≡ 314 = length-append front key ∙ omega arith in
+    let h₂ : length (front ++ key ++ two) ≡ 316 = length-append (front ++ key) two ∙ omega arith in
+    let h₃ : length (front ++ key ++ two ++ cells) ≡ 572 = length-append (front ++ key ++ two) cells ∙ omega arith in
+    let r₁ : List ℕ = drop (length key) behind in
+    let r₂ : List ℕ = drop 2 r₁ in
+    let r₃ : List ℕ = drop (length cells) r₂ in
+    let d₁ = length-drop (length key) behind in
+    let d₂ = length-drop 2 r₁ in
+    let d₃ = length-drop (length cells) r₂ in
+    let g₁ = grown front behind key 295 (sym (take-append-drop 295 octets)) e₁ hf (omega arith) in
+    let g₂ = grown (front ++ key) r₁ two 314 g₁ e₂ h₁ (omega arith) in
+    let g₃ = grown (front ++ key ++ two) r₂ cells 316 g₂ e₃ h₂ (omega arith) in
+    let g₄ = grown (front ++ key ++ two ++ cells) r₃ fed 572 g₃ e₄ h₃ (omega arith) in
+    let none = drop-of-length-le r₃ {i = length fed} (omega arith) in
+    g₄ ∙ rw (none, append-nil, right walkLength octets h, ← ek, ← el) (together front key two cells fed)
+  where
+    together : (front key two cells fed : List ℕ) → front ++ key ++ two ++ cells ++ fed ≡ front ++ (key ++ (two ++ cells) ++ fed)
+    together front key two cells fed =
+        ap (λ t. t ++ fed) (append-assoc (front ++ key) two cells ∙ append-assoc front key (two ++ cells)) ∙ append-assoc front (key ++ (two ++ cells)) fed
+
+pub rest-left : (w : Walk) (octets : List ℕ) → (length octets ≡ walkLength → ⊥) → octets ≡ restPut w octets
+unfolding restPut
+rest-left w octets h = rw (not-right walkLength octets h)
+
+-- the whole walk
+pub walk-laid : {front t₁ t₂ : List ℕ} (w : Walk) → front ≡ recordOctets (w .link) → length front ≡ recordLength
+    → t₁ ≡ written (take 577 front) (replicate 577 0) → t₂ ≡ restPut w t₁ → t₂ ≡ walkOctets w
+unfolding restPut walkOctets
+walk-laid {front} {t₁} w ef hf e₁ e₂ =
     let laid : t₁ ≡ front ++ replicate 282 0 = e₁ ∙ rw (take-all 577 front (omega arith), hf) in
-    let two : length (front ++ key) ≡ 314 = length-append front key ∙ omega arith in
-    let three : length (front ++ key ++ state) ≡ 572 = length-append (front ++ key) state ∙ omega arith in
-    let g₂ = append-more front key 295 282 laid e₂ (sym hf) (omega arith) in
-    let g₃ = append-more (front ++ key) state 314 (282 - length key) g₂ e₃ (sym two) (omega arith) in
-    let left : 282 - length key - length state ≡ length fed = omega arith in
-    filled (front ++ key ++ state) fed 572 (g₃ ∙ ap (λ n. (front ++ key ++ state) ++ replicate n 0) left) three e₄ ∙ rw (ef, ek, es, el)
+    let long : length t₁ ≡ walkLength = ap length laid ∙ length-append front (replicate 282 0) ∙ omega arith in
+    let first : take recordLength t₁ ≡ front = ap (take recordLength) laid ∙ take-at front (replicate 282 0) recordLength hf in
+    e₂ ∙ rw (right walkLength t₁ long, first, ef)
 
 -- a part copied
 copied : {r : List ℕ} (n : ℕ) (part : List ℕ) → r ≡ written (take n part) (replicate n 0) → length part ≡ n → r ≡ part

@@ -10,7 +10,7 @@ use lib.ListN.{length, take, drop, getD, length-append, replicate, take-append-d
 use lib.Seq.{take-at, drop-at, drop-drop, take-add, drop-cons, getD-drop}
 use borrow.Author.Tests.{eq-eqb, eqb-true}
 use Rattle.answer.specs.Answer.{done, notRecord, firstOf, onDone}
-use Rattle.answer.specs.Laws.{clear, right-length}
+use Rattle.answer.specs.Laws.{clear, right, right-length}
 use Rattle.octets.specs.Octets.{bigEndian, pairAt}
 use Rattle.rc4.specs.Cipher.{box}
 use Rattle.rc4.specs.Permutation.{Sized as StateSized}
@@ -20,7 +20,7 @@ use Rattle.mppe.specs.declared.Link.{Link}
 use Rattle.mppe_pieces.specs.declared.Walk.{Walk}
 use Rattle.mppe_pieces.specs.Walk.{over}
 use Rattle.mppe_walk.specs.declared.WalkRead.{WalkRead}
-use Rattle.mppe_walk.specs.Walk.{keyOctets, stateOctets, fedOctets, walkLength, walkOctets, frontRead, walkIn, walkRows, noWalk, walkRead}
+use Rattle.mppe_walk.specs.Walk.{keyOctets, stateOctets, fedOctets, walkLength, restOctets, walkOctets, restPut, frontRead, walkIn, walkRows, noWalk, walkRead}
 
 -- what the fields of the code's struct hold: a record's own, numbers of 16 bits, 16 places, and RC4's state
 abbrev pub Sized : Walk → Type 0
@@ -36,7 +36,7 @@ unfolding stateOctets
 stateOctets-length w h = omega (arith, h .3 .0)
 
 pub walkOctets-length : (w : Walk) → Sized w → length (walkOctets w) ≡ walkLength
-unfolding walkOctets fedOctets
+unfolding walkOctets restOctets fedOctets
 walkOctets-length w h =
     simp length-append (omega (arith, recordOctets-length (w .link) (h .0), keyOctets-length w h, stateOctets-length w h))
 
@@ -45,10 +45,8 @@ abbrev behind : Walk → List ℕ
 behind w = keyOctets w ++ (stateOctets (w .state) ++ fedOctets w)
 
 parts : (w : Walk) → walkOctets w ≡ recordOctets (w .link) ++ behind w
-unfolding walkOctets
-parts w =
-    append-assoc (recordOctets (w .link) ++ keyOctets w) (stateOctets (w .state)) (fedOctets w)
-    ∙ append-assoc (recordOctets (w .link)) (keyOctets w) (stateOctets (w .state) ++ fedOctets w)
+unfolding walkOctets restOctets
+parts w = ap (λ t. recordOctets (w .link) ++ t) (append-assoc (keyOctets w) (stateOctets (w .state)) (fedOctets w))
 
 module _ (w : Walk) (h : Sized w) where
   in-front : take 295 (walkOctets w) ≡ recordOctets (w .link)
@@ -181,16 +179,22 @@ fed-kept octets all h =
     ∙ ap (λ t. getD octets 572 0 ∷ getD octets 573 0 ∷ t ++ last) fed
     ∙ sym (next octets 572 (omega arith) four)
 
--- .. and with the record all of them
+-- .. all of these, and with the record all of them
 pub in-front-octets : (n : ℕ) (l : List ℕ) → Octets l → Octets (take n l)
 in-front-octets zero l all i = omega arith
 in-front-octets (suc n) [] all i = omega arith
 in-front-octets (suc n) (x ∷ l) all zero = all 0
 in-front-octets (suc n) (x ∷ l) all (suc i) = in-front-octets n l (λ k. all (suc k)) i
 
-whole : {front key state fed : List ℕ} (octets : List ℕ) → front ≡ take 295 octets → key ≡ take 19 (drop 295 octets)
-    → state ≡ take 258 (drop 314 octets) → fed ≡ drop 572 octets → front ++ key ++ state ++ fed ≡ octets
-whole octets ef ek es el = rw (ef, ek, es, el, ← take-add 295 19 octets, ← take-add 314 258 octets) (take-append-drop 572 octets)
+rest-kept : (octets : List ℕ) → Octets octets → length octets ≡ walkLength → noChoice (getD octets 295 0) ≡ false
+    → restOctets (walkIn octets) ≡ drop 295 octets
+unfolding restOctets
+rest-kept octets all h e = joined (key-kept octets all h e) (state-kept octets h) (fed-kept octets all h)
+  where
+    joined : {key state fed : List ℕ} → key ≡ take 19 (drop 295 octets) → state ≡ take 258 (drop 314 octets) → fed ≡ drop 572 octets
+        → key ++ state ++ fed ≡ drop 295 octets
+    joined ek es el =
+        rw (ek, es, el, ← drop-drop 19 295 octets, ← take-add 19 258 (drop 295 octets), ← drop-drop 277 295 octets) (take-append-drop 277 (drop 295 octets))
 
 pub front-kept : (octets : List ℕ) → Octets octets → walkRead octets .answer ≡ done → recordOctets (walkRead octets .walk .link) ≡ take recordLength octets
 front-kept octets all ok =
@@ -201,8 +205,15 @@ pub writes-back : (octets : List ℕ) → Octets octets → walkRead octets .ans
 unfolding walkOctets
 writes-back octets all ok =
     let (long, front, live, walk) = read-known octets ok in
-    let first = sym (ap (λ (w : Walk). recordOctets (w .link)) walk) ∙ front-kept octets all ok in
-    ap walkOctets walk ∙ whole octets first (key-kept octets all long live) (state-kept octets long) (fed-kept octets all long)
+    let rest : restOctets (walkRead octets .walk) ≡ drop 295 octets = ap restOctets walk ∙ rest-kept octets all long live in
+    rw (front-kept octets all ok, rest) (take-append-drop 295 octets)
+
+-- another walk with the same record is written by what stands behind the record
+pub rest-written : (octets : List ℕ) (w : Walk) → Octets octets → walkRead octets .answer ≡ done → w .link ≡ walkRead octets .walk .link
+    → restPut w octets ≡ walkOctets w
+unfolding restPut walkOctets
+rest-written octets w all ok same =
+    rw (right walkLength octets (read-length octets ok)) (ap (λ f. f ++ restOctets w) (sym (front-kept octets all ok) ∙ ap recordOctets (sym same)))
 
 -- octets that hold no walk are refused with 7
 pub read-refused : (octets : List ℕ) → walkRead octets .answer ≢ done → walkRead octets .answer ≡ notRecord

@@ -4,7 +4,7 @@ use mathlib.Core.List.{List, [], _∷_, _++_}
 use Prim.Native.Nat.{ℕ}
 use lib.Dec.{eqb}
 use lib.ListN.{take, drop, getD}
-use Rattle.answer.specs.Answer.{done, notRecord, firstOf, onDone, wrong}
+use Rattle.answer.specs.Answer.{done, notRecord, pick, firstOf, onDone, wrong}
 use Rattle.octets.specs.Octets.{bigEndian, pairAt}
 use Rattle.rc4.specs.declared.Rc4.{Rc4}
 use Rattle.rc4.specs.Cipher.{box}
@@ -29,8 +29,15 @@ fedOctets w = bigEndian 2 (w .total) ++ bigEndian 2 (w .fed) ++ (w .first ∷ []
 abbrev pub walkLength : ℕ
 walkLength = 577
 
+unfoldable pub restOctets : Walk → List ℕ
+restOctets w = keyOctets w ++ stateOctets (w .state) ++ fedOctets w
+
 unfoldable pub walkOctets : Walk → List ℕ
-walkOctets w = recordOctets (w .link) ++ keyOctets w ++ stateOctets (w .state) ++ fedOctets w
+walkOctets w = recordOctets (w .link) ++ restOctets w
+
+-- 577 octets with what stands behind the record that of a walk; others as they were
+unfoldable pub restPut : Walk → List ℕ → List ℕ
+restPut w octets = pick (wrong walkLength octets) octets (take recordLength octets ++ restOctets w)
 
 -- what is read of the record in front
 abbrev pub frontRead : List ℕ → RecordRead

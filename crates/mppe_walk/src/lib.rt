@@ -2,7 +2,7 @@
 // the first protocol octet 1. Numbers have their highest octet first.
 ghost use mathlib.Core.Path.{_≡_};
 ghost use lib.ListN.{length};
-ghost use Rattle.mppe_walk.specs.Walk.{keyOctets, stateOctets, fedOctets, walkLength, walkOctets, frontRead, walkIn, noWalk, walkRead};
+ghost use Rattle.mppe_walk.specs.Walk.{keyOctets, fedOctets, restPut, walkLength, walkOctets, frontRead, walkIn, noWalk, walkRead};
 use mppe::Link;
 use mppe_keys::Mode;
 use mppe_keys::Strength;
@@ -43,17 +43,28 @@ pub fn walk_octets(walk: Walk) -> [u8; 577]
     ensures { λ r. ⌜ r ≡ walkOctets walk ⌝ }
 {
     let link = walk.link;
-    let state = walk.state;
     let front = record_octets(link);
-    let keyed = key_octets(walk);
-    let drawn = state_octets(state);
-    let fed = fed_octets(walk);
     let mut octets = [0u8; 577];
     octets::copy(&front, &mut octets);
-    octets::copy_at(&keyed, LIVE_AT, &mut octets);
-    octets::copy_at(&drawn, STATE_AT, &mut octets);
-    octets::copy_at(&fed, TOTAL_AT, &mut octets);
+    put_rest(walk, &mut octets);
     octets
+}
+
+// Writes what stands behind the record of a walk into the octets of another; nothing where they are not 577.
+pub fn put_rest(walk: Walk, octets: &mut [u8])
+    ensures { λ _. ⌜ now (octets .exit) ≡ restPut walk (now (octets .entry)) ⌝ }
+{
+    if octets.len() != WALK_LENGTH {
+        return;
+    }
+    let keyed = key_octets(walk);
+    let state = walk.state;
+    let cells = state.cells;
+    let fed = fed_octets(walk);
+    octets::copy_at(&keyed, LIVE_AT, octets);
+    octets::copy_at(&[state.i, state.j], STATE_AT, octets);
+    octets::copy_at(&cells, CELLS_AT, octets);
+    octets::copy_at(&fed, TOTAL_AT, octets);
 }
 
 // Whether it is live, its header and its session key.
@@ -72,17 +83,6 @@ fn key_octets(walk: Walk) -> [u8; 19]
         &mut octets,
     );
     octets::copy_at(&session, 3, &mut octets);
-    octets
-}
-
-// RC4's indices and cells.
-fn state_octets(state: Rc4) -> [u8; 258]
-    ensures { λ r. ⌜ (r ≡ stateOctets state) × (length r ≡ 258) ⌝ }
-{
-    let cells = state.cells;
-    let mut octets = [0u8; 258];
-    octets::copy(&[state.i, state.j], &mut octets);
-    octets::copy_at(&cells, 2, &mut octets);
     octets
 }
 

@@ -1,6 +1,7 @@
 use borrow.Author.Needs.{needs}
+use native.Mathlib.Omega.{arith}
 use Rattle.host.specs.Host.{feedWalked}
-use Rattle.host.proofs.Laws.{walk-length, walked-none, walked-made, seal-told}
+use Rattle.host.proofs.Laws.{walked-none, fed-made, seal-told}
 use Rattle.host.proofs.udukemb_feed.Statement.{statement}
 use Rattle.host.proofs.udukemb_feed.Tie as tie
 
@@ -18,11 +19,8 @@ returns c = let read = c .before .before in
 feed-requires : tie.Need-feed-requires
 feed-requires c κs = search needs
 
-put-walk-requires : tie.Need-put-walk-requires
-put-walk-requires c κs = let made = c .before .before .before in
-    let tested = made .before .before .before in
-    let read = tested .before .before in
-    walk-length _ (read .read-walk .ensures) (tested .if1 .left)
+put-rest-requires : tie.Need-put-rest-requires
+put-rest-requires c κs = search needs
 
 same-length-2 : tie.Need-same-length-2
 same-length-2 c = search needs
@@ -37,7 +35,9 @@ returns-2 c = let put = c .before .before in
     let made = lent .before .before in
     let tested = made .before .before .before in
     let read = tested .before .before in
-    seal-told (walked-made _ _ _ (read .read-walk .ensures) (tested .if1 .left) (made .feed .ensures) (put .put-walk .ensures))
+    let known = read .before .before .before .before in
+    let lent-walk = known .before .args .walk .now in
+    seal-told (fed-made lent-walk _ _ (λ i. omega (arith, known .slice-known .given i)) (read .read-walk .ensures) (tested .if1 .left) (made .feed .ensures) (put .put-rest .ensures))
 
 pub udukemb-feed-spec : {M : Type 1} → statement M
 udukemb-feed-spec =
@@ -47,7 +47,7 @@ udukemb-feed-spec =
     same-length
     returns
     feed-requires
-    put-walk-requires
+    put-rest-requires
     same-length-2
     same-length-3
     returns-2)
