@@ -12,7 +12,6 @@ use Rattle.answer.specs.Answer.{done}
 use Rattle.answer.specs.Laws.{right, not-right}
 use Rattle.octets.specs.Octets.{bigEndian, written, writtenAt}
 use Rattle.octets.specs.Laws.{append-more, grown}
-use Rattle.rc4.specs.declared.Rc4.{Rc4}
 use Rattle.mppe.specs.declared.Link.{Link}
 use Rattle.mppe_record.specs.declared.RecordRead.{RecordRead}
 use Rattle.mppe_record.specs.Record.{yesNumber, recordLength, recordOctets}
