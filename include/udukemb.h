@@ -36,7 +36,7 @@
  *       udukemb_check_authenticator     1200
  *       udukemb_check_response          2800
  *       udukemb_end                     3000
- *       udukemb_feed                    4700
+ *       udukemb_feed                    3800
  *       udukemb_new_link                 900
  *       udukemb_nt_response             2800
  *       udukemb_open                    4100
