@@ -179,9 +179,9 @@ impl Link {
                 changes: 0,
             };
         }
-        let away = distance(self.count, header % COUNTS);
+        let ahead = distance(self.count, header % COUNTS);
         let mode = self.mode;
-        let changes = changes_over(mode, self.count, away);
+        let changes = changes_over(mode, self.count, ahead);
         if beyond_plain(length) {
             return Judged {
                 answer: answer::SHAPE,
@@ -189,7 +189,7 @@ impl Link {
             };
         }
         Judged {
-            answer: header_code(mode, self.waiting, header, away, 0, 0),
+            answer: header_code(mode, self.waiting, header, ahead, 0, 0),
             changes,
         }
     }
