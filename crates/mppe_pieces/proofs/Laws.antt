@@ -118,12 +118,6 @@ feed-bounds w piece lent e z =
 pub refused-closed : {r : Step} (code : ℕ) (w : Walk) → closes code ≡ true → r ≡ onWith code (over (w .link)) → r ≡ onWith code (pick (closes code) (over (w .link)) w)
 refused-closed code w e er = rw e er
 
-pub closes-size : (code : ℕ) → code ≡ size → closes code ≡ true
-closes-size code e = rw e
-
-pub closes-protocol : (code : ℕ) → code ≡ protocol → closes code ≡ true
-closes-protocol code e = rw e
-
 pub refused-stays : (code : ℕ) (w : Walk) → (code ≡ size → ⊥) → (code ≡ protocol → ⊥) → onWith code w ≡ onWith code (pick (closes code) (over (w .link)) w)
 refused-stays code w a b = rw (ne-eqb code size a, ne-eqb code protocol b)
 
@@ -404,11 +398,8 @@ pub afresh-flagged : (h n : ℕ) → n ≡ 0 → not (eqb (h / bitA % 2) 0) ≡ 
 afresh-flagged h n none = rw none
 
 -- the number for a wrong front
-pub shape-of : {r : Bool} (well : Bool) → r ≡ well → r ≡ true → shape ≡ pick well shape notRecord
-shape-of well e t = rw (← e, t)
-
-pub record-of : {r : Bool} (well : Bool) → r ≡ well → r ≡ false → notRecord ≡ pick well shape notRecord
-record-of well e t = rw (← e, t)
+pub front-code : {r : Bool} (well t : Bool) → r ≡ well → r ≡ t → pick t shape notRecord ≡ pick well shape notRecord
+front-code well t e h = rw (← e, h)
 
 -- a front of another length, and one of another number
 pub front-size : (four : List ℕ) → (length four ≡ 4 → ⊥) → true ≡ (wrong front four || not (eqb (pairAt 0 four) 0x00FD))

@@ -469,6 +469,12 @@ module _ (limit far : ℕ) where
       by true f = absurd (other (rw (e, f)))
       by false f = (refl, refl)
 
+  begun-closed : (l : Link) (four : List ℕ) (total lent code : ℕ) → beginCode limit far l four total lent ≡ code → beginStep limit far l four total lent .answer ≢ done
+      → beginStep limit far l four total lent .walk ≡ over (beginStep limit far l four total lent .walk .link)
+  unfolding beginStep over
+  begun-closed l four total lent zero e some = absurd (some (rw e))
+  begun-closed l four total lent (suc n) e some = rw e
+
   picked-link : (w : Walk) (t : Bool) → pick t (over (w .link)) w .link ≡ w .link
   picked-link w true = over-link (w .link)
   picked-link w false = refl
@@ -568,6 +574,7 @@ pub calls : (limit far : ℕ) → Calls limit far
 calls limit far =
     record {
       begun = λ l four total lent. begun-kept limit far l four total lent (beginCode limit far l four total lent) refl;
+      closed = λ l four total lent. begun-closed limit far l four total lent (beginCode limit far l four total lent) refl;
       fed = λ w piece out. fed-kept limit far w piece out (feedCode limit far w piece (length out)) refl;
       refused = λ w piece out. fed-refused limit far w piece out (feedCode limit far w piece (length out)) refl;
       unended = λ w. end-refused limit far w (endCode limit far w) refl;

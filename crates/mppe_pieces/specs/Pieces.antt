@@ -79,6 +79,9 @@ pub record Calls (limit far : ℕ) : Type 0 where
   -- a begin but for 11
   pub begun : (l : Link) (four : List ℕ) (total lent : ℕ) → beginStep limit far l four total lent .answer ≢ waiting
       → (beginStep limit far l four total lent .walk .link ≡ l) × (beginStep limit far l four total lent .changes ≡ 0)
+  -- "a refused begin gives a closed walk"
+  pub closed : (l : Link) (four : List ℕ) (total lent : ℕ) → beginStep limit far l four total lent .answer ≢ done
+      → beginStep limit far l four total lent .walk ≡ over (beginStep limit far l four total lent .walk .link)
   -- a feed
   pub fed : (w : Walk) (piece out : List ℕ)
       → (feedResult limit far w piece out .step .walk .link ≡ w .link) × (feedResult limit far w piece out .step .changes ≡ 0)
