@@ -13,14 +13,14 @@ use Rattle.answer.specs.Laws.{right}
 use Rattle.mppe_keys.specs.declared.Strength.{Strength}
 use Rattle.mppe_keys.specs.Keys.{byMode, modeIf}
 use Rattle.mppe.specs.declared.Link.{Link}
-use Rattle.mppe.specs.declared.Outcome.{Outcome}
 use Rattle.mppe.specs.Link.{Result, longestPlain, farthest, newLink, newLinkCode, withBox, headerIn, refusal, sealCode, sealResult, waited, openCode, openResult, resetCode, resetOutcome}
 use Rattle.mppe.specs.Laws.{report-bound}
 use Rattle.mppe_record.specs.Record.{strengthOf, noStrength, recordLength, recordOctets, recordRead}
 use Rattle.mppe_record.specs.Laws.{Sized, Octets, recordOctets-length, reads-back, writes-back, new-sized}
 use Rattle.mppe_pieces.specs.declared.Walk.{Walk}
 use Rattle.mppe_pieces.specs.declared.Step.{Step}
-use Rattle.mppe_pieces.specs.Walk.{Fed, over, overWith, onWith, walkOf, unbegun, beginCode, beginStep, closes, walkAfter, bufferAfter, feedCode, feedResult, endCode, endStep}
+use Rattle.mppe_pieces.specs.Walk.{Fed, over, onWith, beginStep, closes, feedResult, endStep}
+use Rattle.mppe_pieces.specs.Laws.{calls}
 use Rattle.mppe_walk.specs.Walk.{walkLength, walkOctets, frontRead, walkRead}
 use Rattle.mppe_walk.specs.Laws.{in-front-octets, front-kept, writes-back as walk-back, read-refused, over-octets}
 use Rattle.host.specs.Host.{Given, Linked, given, newLinkGiven, linkedBy, unchanged, linked, sealLinked, openLinked, resetLinked, walkedBy, stepped, walked, feedWalked, endWalked, closedOctets, beginWalked}
@@ -155,6 +155,14 @@ walked-refused closing call octets out stays refuses all = go (walkRead octets .
         let code : suc n ≡ notRecord = sym e ∙ read-refused octets (λ z. not0 (sym e ∙ z)) in
         ap (λ t. unchanged (suc n) (pick t (closedOctets octets) octets) out) (sym (ap closing code ∙ stays))
 
+-- a result of its parts
+refused-is : (r : Fed) (w : Walk) (out : List ℕ) → r .step .changes ≡ 0 → r .step .walk ≡ w → r .buffer ≡ out
+    → r ≡ record { step = onWith (r .step .answer) w; buffer = out }
+refused-is r w out ec ew eo =
+    ap (λ (n : ℕ). record { step = record { answer = r .step .answer; changes = n; walk = r .step .walk }; buffer = r .buffer }) ec
+    ∙ ap (λ (v : Walk). record { step = onWith (r .step .answer) v; buffer = r .buffer }) ew
+    ∙ ap (λ (o : List ℕ). record { step = onWith (r .step .answer) w; buffer = o }) eo
+
 -- "A piece beyond the total is 3, .. these and a 4 close the walk"; 7 and 2 change nothing
 pub feed-refused : (octets piece out : List ℕ) → Octets octets → feedWalked octets piece out .code ≢ done
     → feedWalked octets piece out
@@ -163,58 +171,29 @@ unfolding feedWalked
 feed-refused octets piece out = walked-refused closes (λ w. feedResult longestPlain farthest w piece out) octets out refl each
   where
     each : Closes closes (λ w. feedResult longestPlain farthest w piece out) out
-    each w = unfold feedResult in refuses (feedCode longestPlain farthest w piece (length out))
-      where
-        made : ℕ → Fed
-        made code =
-            record {
-              step = onDone code (onWith done (walkAfter w piece)) (onWith code (pick (closes code) (over (w .link)) w));
-              buffer = onDone code (bufferAfter w piece out) out;
-            }
-
-        refuses : (code : ℕ) → made code .step .answer ≢ done
-            → made code ≡ record { step = onWith (made code .step .answer) (pick (closes (made code .step .answer)) (over (w .link)) w); buffer = out }
-        refuses zero not0 = absurd (not0 refl)
-        refuses (suc n) not0 = refl
+    each w some =
+        let (buffer-is, walk-is) = calls longestPlain farthest .refused w piece out some in
+        refused-is (feedResult longestPlain farthest w piece out) _ out (calls longestPlain farthest .fed w piece out .1) walk-is buffer-is
 
 -- "an end before it is 1", and closes the walk; 7 changes nothing
-abbrev early : ℕ → Bool
-early code = eqb code shape
-
 pub end-refused : (octets : List ℕ) → Octets octets → endWalked octets .code ≢ done
     → endWalked octets ≡ unchanged (endWalked octets .code) (pick (eqb (endWalked octets .code) shape) (closedOctets octets) octets) []
 unfolding endWalked
-end-refused octets = walked-refused early (λ w. stepped (endStep longestPlain farthest w)) octets [] refl each
+end-refused octets = walked-refused (λ (code : ℕ). eqb code shape) (λ w. stepped (endStep longestPlain farthest w)) octets [] refl each
   where
-    each : Closes early (λ w. stepped (endStep longestPlain farthest w)) []
-    each w = unfold endStep in refuses (endCode longestPlain farthest w) _ refl
-      where
-        refuses : (code : ℕ) (r : Step) → r .answer ≡ done
-            → let s : Step = onDone code r (onWith code (pick (early code) (over (w .link)) w)) in
-            s .answer ≢ done → stepped s ≡ stepped (onWith (s .answer) (pick (early (s .answer)) (over (w .link)) w))
-        refuses zero r e not0 = absurd (not0 e)
-        refuses (suc n) r e not0 = refl
+    each : Closes (λ (code : ℕ). eqb code shape) (λ w. stepped (endStep longestPlain farthest w)) []
+    each w some =
+        let (walk-is, none) = calls longestPlain farthest .unended w some in
+        refused-is (stepped (endStep longestPlain farthest w)) _ [] none walk-is refl
 
 -- "a refused begin gives a closed walk", but for 11, which moves the record: on records ..
 begin-closes : (l : Link) (four : List ℕ) (total lent : ℕ)
     → let s : Step = beginStep longestPlain farthest l four total lent in
-    s .answer ≢ done → s .answer ≢ waiting → s ≡ onWith (s .answer) (over l)
-unfolding beginStep
-begin-closes l four total lent = by (beginCode longestPlain farthest l four total lent)
-  where
-    step : ℕ → Step
-    step code = onDone code (onWith done (walkOf l (headerIn four) total)) (overWith (unbegun code l (headerIn four)))
-
-    by : (code : ℕ) → step code .answer ≢ done → step code .answer ≢ waiting → step code ≡ onWith (step code .answer) (over l)
-    by zero not0 not11 = absurd (not0 refl)
-    by (suc n) not0 not11 = at (eqb (suc n) waiting) not11
-      where
-        end : Bool → Outcome
-        end t = pick t (waited l (headerIn four) [] .outcome) (refusal (suc n) l [] .outcome)
-
-        at : (t : Bool) → end t .answer ≢ waiting → overWith (end t) ≡ onWith (end t .answer) (over l)
-        at true not11 = absurd (not11 refl)
-        at false not11 = refl
+    s .answer ≢ done → s .answer ≢ waiting → stepped s ≡ stepped (onWith (s .answer) (over l))
+begin-closes l four total lent some other =
+    let (link-is, none) = calls longestPlain farthest .begun l four total lent other in
+    let walk-is = calls longestPlain farthest .closed l four total lent some ∙ ap over link-is in
+    refused-is (stepped (beginStep longestPlain farthest l four total lent)) (over l) [] none walk-is refl
 
 -- .. and on the record in front of lent octets, also where there is none
 pub begin-refused : (octets four : List ℕ) (total lent : ℕ) → Octets octets → length octets ≡ walkLength
@@ -236,7 +215,7 @@ begin-refused octets four total lent all long = rw (right walkLength octets long
         → made code ≡ unchanged (made code .code) (closedOctets octets) []
     go zero e not0 not11 =
         let kept = writes-back (take recordLength octets) (in-front-octets recordLength octets all) e in
-        ap (λ (s : Step). walkedBy (stepped s)) (begin-closes held four total lent not0 not11)
+        ap walkedBy (begin-closes held four total lent not0 not11)
         ∙ ap (λ o. unchanged (begun .answer) o []) (over-octets held ∙ ap (λ f. f ++ replicate (walkLength - recordLength) 0) kept)
     go (suc n) e not0 not11 = refl
 
