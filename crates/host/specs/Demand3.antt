@@ -10,8 +10,8 @@ use Rattle.mppe_keys.specs.declared.Mode.the-variants.{Stateless}
 use Rattle.mppe_keys.specs.Keys.{bitsOf}
 use Rattle.mppe.specs.declared.Link.{Link}
 use Rattle.mppe.specs.Link.{Result, longestPlain, farthest, newLink, newLinkCode, sealResult, openResult}
-use Rattle.mppe.specs.Run.{SealCall, OpenCall, octetsLent, roomLent, first, sealRun, openRun, Demand3}
-use Rattle.mppe.specs.Demand3.{demand-3-base}
+use Rattle.mppe_runs.specs.Run.{SealCall, OpenCall, octetsLent, roomLent, first, sealRun, openRun, Demand3}
+use Rattle.mppe_runs.specs.Demand3.{demand-3-base}
 use Rattle.mppe_record.specs.Record.{strengthOf, recordLength, recordOctets}
 use Rattle.mppe_record.specs.Laws.{bits-back, bits-known, Sized, recordOctets-length, new-sized, seal-sized, open-sized}
 use Rattle.host.specs.Host.{Given, Linked, newLinkGiven, linkedBy, linked, sealLinked, openLinked}

@@ -1,5 +1,5 @@
 -- Demand 3 for a program in C, in the words of 01, "The run of demand 3": the two lists of calls, each end with a record in 295 lent
--- octets. The history, its packets, what is asked of the line, and what is said and due are those of crates/mppe/specs/Run.antt.
+-- octets. The history, its packets, what is asked of the line, and what is said and due are those of crates/mppe_runs/specs/Run.antt.
 -- `Demand3InC` at the end is the claim.
 use mathlib.Core.Path.{_≡_}
 use mathlib.Core.Bool.{false}
@@ -9,7 +9,7 @@ use lib.ListN.{length}
 use Rattle.answer.specs.Answer.{done}
 use Rattle.mppe_keys.specs.declared.Strength.{Strength}
 use Rattle.mppe.specs.Link.{longestPlain, farthest}
-use Rattle.mppe.specs.Run.{mostLost, SealCall, OpenCall, octetsLent, roomLent, Packet, first, beginning, packets, said, Meets, due}
+use Rattle.mppe_runs.specs.Run.{mostLost, SealCall, OpenCall, octetsLent, roomLent, Packet, first, beginning, packets, said, Meets, due}
 use Rattle.mppe_record.specs.Record.{strengthOf, recordLength}
 use Rattle.host.specs.Host.{Linked, newLinkGiven, linkedBy, sealLinked, openLinked}
 

@@ -18,8 +18,7 @@ use Rattle.ccp.specs.Option.{modeOf, strengthsOf, wordOf, only}
 use Rattle.ccp.specs.Answers.{readCode, supportedBits, readAnswer, replyCode, chosen, replyWith, replyAnswer, replyWord}
 use Rattle.mppe.specs.declared.Link.{Link}
 use Rattle.mppe.specs.Link.{shortestPlain, longestPlain, farthest, wellFormed, distance, header, headerIn, refusal, frontRows, headerRows, dataRows, openCode, openResult}
-use Rattle.mppe.specs.Laws.{front-none}
-use Rattle.mppe.specs.Demand3.{open-other}
+use Rattle.mppe.specs.Laws.{open-other, front-none}
 use Rattle.sstp.specs.Binding.{lengthOctets}
 
 -- what is given, and what must be

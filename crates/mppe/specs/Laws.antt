@@ -1,6 +1,7 @@
 -- What holds of records, packets and counts, once over the strengths.
 use mathlib.Core.Path.{_≡_, refl, sym, ap, _∙_}
 use mathlib.Core.Bool.{Bool, true, false, not, _&&_, false≢true}
+use mathlib.Core.Logic.{_≢_}
 use mathlib.Core.List.{List, [], _∷_, _++_}
 use Prim.Native.Nat.{ℕ, zero, suc, _+_, _-_, _/_, _%_, _<_, _≤_}
 use native.Mathlib.Nat.{suc-ne-zero}
@@ -10,7 +11,7 @@ use lib.ListN.{length, take, drop, getD, replicate, length-take}
 use lib.Seq.{take-append-seam, drop-append-seam}
 use borrow.Author.Tests.{lt-ltb, le-ltb, eq-eqb, ne-eqb, ltb-false, eqb-true, eqb-false, not-true}
 use Rattle.answer.specs.Answer.{done, flags, repeat, late, waiting, pick, outside, firstOf, onDone}
-use Rattle.answer.specs.Laws.{both, clear, never, rows-pass, rows-passed, within, outside-none}
+use Rattle.answer.specs.Laws.{both, clear, never, not-done, rows-pass, rows-passed, within, outside-none}
 use Rattle.rc4.specs.declared.Rc4.{Rc4}
 use Rattle.rc4.specs.Cipher.{permutation, unkeyed, isUnkeyed, keySchedule, after}
 use Rattle.rc4.specs.Permutation.{whole-permutation, permutation-whole, after-whole, keyed-whole, unkeyed-found, unkeyed-permutation}
@@ -250,6 +251,15 @@ report-bound limit far l packet out = go (openCode limit far l packet (length ou
         by : (t : Bool) → eqb (suc n) waiting ≡ t → pick t (waited l (headerIn packet) out) (refusal (suc n) l out) .outcome .changes ≤ far
         by true w = near (clear late (take 7 rows) refl (rows-passed waiting (take 7 rows) (drop 7 rows) refl (e ∙ eqb-true (suc n) waiting w)) .0)
         by false w = omega arith
+
+-- what open gives where its table refuses, but for 11
+pub open-other : (limit far : ℕ) (l : Link) (packet lent : List ℕ) → openCode limit far l packet (length lent) ≢ done
+    → openCode limit far l packet (length lent) ≢ waiting
+    → openResult limit far l packet lent ≡ refusal (openCode limit far l packet (length lent)) l lent
+unfolding openResult
+open-other limit far l packet lent not0 not11 =
+    let code : ℕ = openCode limit far l packet (length lent) in
+    rw (ne-eqb code waiting not11) (not-done code _ (refusal code l lent) not0)
 
 -- with a stateless record no packet is waited for
 pub no-waiting : (limit far : ℕ) (l : Link) (packet : List ℕ) (lent : ℕ) → l .mode ≡ Stateless → openCode limit far l packet lent ≡ waiting → ⊥

@@ -14,7 +14,7 @@ use Rattle.answer.specs.Answer.{done, size, protocol, waiting, pick, firstOf, o
 use Rattle.answer.specs.Laws.{clear, rows-pass, right, right-length}
 use Rattle.octets.specs.Octets.{written}
 use Rattle.rc4.specs.declared.Rc4.{Rc4}
-use Rattle.rc4.specs.Cipher.{unkeyed, permutation, keySchedule, run, after}
+use Rattle.rc4.specs.Cipher.{unkeyed, keySchedule, run, after}
 use Rattle.rc4.specs.Laws.{run-length, run-twice, after-length}
 use Rattle.rc4.specs.Permutation.{unkeyed-found, unkeyed-permutation}
 use Rattle.mppe_keys.specs.declared.Strength.{Strength}
@@ -22,12 +22,12 @@ use Rattle.mppe_keys.specs.declared.Mode.the-variants.{Stateful}
 use Rattle.mppe_keys.specs.Keys.{keyLength, byMode, initialKey, keyChange, changes}
 use Rattle.mppe_keys.specs.Laws.{initialKey-length, initialKey-head, changes-length, changes-head, changes-add}
 use Rattle.ccp.specs.Reset.{resetRows}
 use Rattle.mppe.specs.declared.Link.{Link}
-use Rattle.mppe.specs.Link.{longestPlain, counts, newCount, farthest, boxFits, wellFormed, startKeyIn, sessionKeyIn, linkOf, renewed, withBox, keptBox, newLink, newLinkCode, offProtocol, packetOn, headerIn, dataIn, countOf, endings, changesOver, Result, finished, unopened, refusal, plainRows, nextCount, nextChanges, nextKey, keysAfresh, nextBox, sealCode, sealResult, awayFor, changesFor, keyFor, boxFor, opens, stateFor, plainFor, linkAfter, waited, frontRows, headerRows, dataRows, openCode, openResult, resetCode, resetOutcome}
-use Rattle.mppe.specs.Laws.{Box, after-box, keyed-box, picked-box, key-back, well, front-none, headerOf, sealed-header, header-count, header-A, header-D, distance-is, endings-are}
-use Rattle.mppe.specs.Run.{mostLost, SealCall, OpenCall, arrival, other, saidCode, openRun}
-use Rattle.mppe.specs.Demand3.{Sealable, open-other}
-use Rattle.mppe.specs.StatefulRun.{SendCall, seal, reset, History, Packet, first, beginning, heldBy, ends, nextSession, freshly, boxUsed, sealedOn, packetOf, asked, numbered, sendRun, onward, packets, saidOf, said, opened, dueOf, Meets, due, StatefulRun}
+use Rattle.mppe.specs.Link.{longestPlain, counts, newCount, farthest, boxFits, wellFormed, startKeyIn, sessionKeyIn, linkOf, renewed, withBox, keptBox, newLink, newLinkCode, offProtocol, packetOn, headerIn, dataIn, countOf, endings, changesOver, Result, finished, unopened, refusal, plainRows, nextCount, nextChanges, nextKey, keysAfresh, nextBox, sealCode, sealResult, awayFor, changesFor, keyFor, boxFor, opens, stateFor, plainFor, linkAfter, frontRows, headerRows, dataRows, openCode, openResult, resetCode, resetOutcome}
+use Rattle.mppe.specs.Laws.{open-other, Box, after-box, keyed-box, picked-box, key-back, well, front-none, headerOf, sealed-header, header-count, header-A, header-D, distance-is, endings-are}
+use Rattle.mppe_runs.specs.Run.{mostLost, SealCall, OpenCall, arrival, other, saidCode, openRun}
+use Rattle.mppe_runs.specs.Line.{Sealable}
+use Rattle.mppe_runs.specs.StatefulRun.{SendCall, seal, reset, History, Packet, first, beginning, heldBy, ends, nextSession, freshly, boxUsed, sealedOn, packetOf, asked, numbered, sendRun, onward, packets, saidOf, said, opened, dueOf, Meets, due, StatefulRun}
 
 module _ (s : Strength) (start : List ℕ) where
   -- the session key when m packets are done with

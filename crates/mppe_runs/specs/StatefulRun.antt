@@ -17,9 +17,9 @@ use Rattle.mppe_keys.specs.declared.Strength.{Strength}
 use Rattle.mppe_keys.specs.declared.Mode.the-variants.{Stateful}
 use Rattle.mppe_keys.specs.Keys.{initialKey, keyChange}
 use Rattle.ccp.specs.Reset.{resetRows}
 use Rattle.mppe.specs.declared.Link.{Link}
 use Rattle.mppe.specs.Link.{counts, newCount, linkOf, renewed, withBox, newLink, packetOn, endings, Result, finished, unopened, refusal, sealResult, resetOutcome, openCode}
-use Rattle.mppe.specs.Run.{SealCall, OpenCall, arrival, other, saidCode, openRun}
+use Rattle.mppe_runs.specs.Run.{SealCall, OpenCall, arrival, other, saidCode, openRun}
 
 -- a call at the sender: a packet to be sealed, or the octets of a Reset-Request
 pub data SendCall : Type 0 where

@@ -11,10 +11,11 @@ use Rattle.answer.specs.Answer.{done, shape, size, repeat, late}
 use Rattle.mppe_keys.specs.declared.Strength.{Strength}
 use Rattle.mppe_keys.specs.declared.Mode.the-variants.{Stateless}
 use Rattle.mppe_keys.specs.Keys.{keyLength, changes}
 use Rattle.mppe.specs.declared.Link.{Link}
 use Rattle.mppe.specs.Link.{longestPlain, farthest, newLink, Result, finished, refusal, openCode}
-use Rattle.mppe.specs.Run.{mostLost, SealCall, OpenCall, arrival, other, Packet, sealRun, openRun, first, beginning, saidCode, packetOf, onward, packets, said, numbered, Meets, due, Demand3}
-use Rattle.mppe.specs.Demand3.{keyAt, recordAt, historyAt, packetAt, start-length, first-is, well-at, packet-is, repeat-code, late-code, demand-3-base}
+use Rattle.mppe_runs.specs.Run.{mostLost, SealCall, OpenCall, arrival, other, Packet, sealRun, openRun, first, beginning, saidCode, packetOf, onward, packets, said, numbered, Meets, due, Demand3}
+use Rattle.mppe_runs.specs.Line.{keyAt, recordAt, historyAt, packetAt, start-length, first-is, well-at, packet-is, repeat-code, late-code}
+use Rattle.mppe_runs.specs.Demand3.{demand-3-base}
 
 -- what is due to a call that is no arrival, also where no schedule is met: the first number that applies, and nothing moves
 pub due-other : (limit far : ℕ) (s : Strength) (start : List ℕ) (sealed : List Packet) (next : ℕ) (held : Link) (octets room : List ℕ) (cs : List OpenCall)

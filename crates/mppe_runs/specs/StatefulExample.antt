@@ -12,11 +12,11 @@ use borrow.Author.Tests.{ne-eqb}
 use Rattle.answer.specs.Answer.{done, waiting, pick}
 use Rattle.mppe_keys.specs.declared.Strength.{Strength}
 use Rattle.mppe_keys.specs.declared.Mode.the-variants.{Stateful}
 use Rattle.mppe.specs.declared.Link.{Link}
 use Rattle.mppe.specs.Link.{longestPlain, farthest, newLink, Result}
-use Rattle.mppe.specs.Run.{mostLost, SealCall, OpenCall, arrival, saidCode, openRun}
-use Rattle.mppe.specs.StatefulRun.{SendCall, seal, reset, History, Packet, first, beginning, sealedOn, packetOf, asked, onward, packets, numbered, opened, dueOf, Meets, due, StatefulRun}
-use Rattle.mppe.specs.Stateful.{stateful-run-base}
+use Rattle.mppe_runs.specs.Run.{mostLost, SealCall, OpenCall, arrival, saidCode, openRun}
+use Rattle.mppe_runs.specs.StatefulRun.{SendCall, seal, reset, History, Packet, first, beginning, sealedOn, packetOf, asked, onward, packets, numbered, opened, dueOf, Meets, due, StatefulRun}
+use Rattle.mppe_runs.specs.Stateful.{stateful-run-base}
 
 abbrev plain : List ℕ
 plain = 0x00 ∷ 0x21 ∷ []

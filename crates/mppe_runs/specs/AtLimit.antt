@@ -10,9 +10,9 @@ use lib.ListN.{length, replicate}
 use Rattle.answer.specs.Answer.{done}
 use Rattle.mppe_keys.specs.declared.Strength.{Strength}
 use Rattle.mppe_keys.specs.declared.Mode.the-variants.{Stateless}
 use Rattle.mppe.specs.Link.{longestPlain, farthest, newLink, Result}
-use Rattle.mppe.specs.Run.{mostLost, SealCall, OpenCall, arrival, Packet, History, first, beginning, saidCode, packetOf, onward, packets, numbered, openRun, Meets, due, Demand3}
-use Rattle.mppe.specs.Demand3.{demand-3-base}
+use Rattle.mppe_runs.specs.Run.{mostLost, SealCall, OpenCall, arrival, Packet, History, first, beginning, saidCode, packetOf, onward, packets, numbered, openRun, Meets, due, Demand3}
+use Rattle.mppe_runs.specs.Demand3.{demand-3-base}
 
 abbrev plain : List ℕ
 plain = 0x00 ∷ 0x21 ∷ []

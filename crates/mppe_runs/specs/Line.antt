@@ -1,17 +1,16 @@
--- Demand 3, proved: for every limit of a plain packet, every farthest distance below the number of counts, and every number of packets
--- lost in a row below it.
-use mathlib.Core.Path.{_≡_, refl, ap, subst, subst₂, _∙_}
+-- A stateless line: both ends' records as functions of the number of packets sealed, the sender's results and the packets that it has
+-- sealed, and what open answers to each of these, whichever was opened last.
+use mathlib.Core.Path.{_≡_, refl, ap, _∙_}
 use mathlib.Core.Bool.{true, false}
-use mathlib.Core.Logic.{_≢_}
 use mathlib.Core.List.{List, [], _∷_, _++_}
 use Prim.Native.Nat.{ℕ, zero, suc, _+_, _-_, _%_, _<_, _≤_}
-use native.Mathlib.Nat.{zero-add, add-zero}
+use native.Mathlib.Nat.{add-zero}
 use native.Mathlib.Omega.{arith}
-use lib.Dec.{eqb, ltb, lit<}
+use lib.Dec.{eqb, ltb}
 use lib.ListN.{length}
 use borrow.Author.Tests.{lt-ltb, le-ltb, eq-eqb, ne-eqb}
-use Rattle.answer.specs.Answer.{done, size, protocol, repeat, late, waiting, outside, firstOf, onDone, wrong}
-use Rattle.answer.specs.Laws.{clear, rows-pass, not-done, right, right-length}
+use Rattle.answer.specs.Answer.{done, size, protocol, repeat, late, outside, firstOf, onDone, wrong}
+use Rattle.answer.specs.Laws.{clear, rows-pass, right, right-length}
 use Rattle.octets.specs.Octets.{written}
 use Rattle.rc4.specs.declared.Rc4.{Rc4}
 use Rattle.rc4.specs.Cipher.{unkeyed, keySchedule, after}
@@ -20,23 +19,14 @@ use Rattle.mppe_keys.specs.declared.Strength.{Strength}
 use Rattle.mppe_keys.specs.declared.Mode.the-variants.{Stateless}
 use Rattle.mppe_keys.specs.Keys.{keyLength, initialKey, keyChange, changes, rc4}
 use Rattle.mppe_keys.specs.Laws.{initialKey-length, initialKey-head, changes-length, changes-head, changes-add}
 use Rattle.mppe.specs.declared.Link.{Link}
-use Rattle.mppe.specs.Link.{shortestPlain, longestPlain, counts, newCount, farthest, wellFormed, startKeyIn, sessionKeyIn, renewed, nextKey, nextCount, linkOf, newLink, newLinkCode, offProtocol, sealedPacket, packetOn, headerIn, dataIn, distance, Result, finished, refusal, plainRows, sealCode, nextChanges, keysAfresh, nextBox, keptBox, withBox, countOf, sealResult, changesOver, awayFor, changesFor, keyFor, stateFor, plainFor, frontRows, headerRows, dataRows, openCode, openResult}
-use Rattle.mppe.specs.Laws.{key-back, well, unkeyed-fits, headerOf, no-waiting, front-none, sealed-header, header-count, header-A, header-D, distance-is, distance-none, distance-behind}
-use Rattle.mppe.specs.Run.{mostLost, SealCall, OpenCall, arrival, other, Packet, History, sealRun, openRun, saidCode, first, beginning, packetOf, onward, packets, said, numbered, Meets, due, Demand3}
+use Rattle.mppe.specs.Link.{shortestPlain, counts, newCount, wellFormed, startKeyIn, sessionKeyIn, renewed, nextKey, nextCount, linkOf, newLink, newLinkCode, offProtocol, sealedPacket, packetOn, headerIn, dataIn, distance, Result, finished, refusal, plainRows, sealCode, nextChanges, keysAfresh, nextBox, keptBox, withBox, countOf, sealResult, changesOver, awayFor, changesFor, keyFor, stateFor, plainFor, frontRows, headerRows, dataRows, openCode, openResult}
+use Rattle.mppe.specs.Laws.{key-back, well, unkeyed-fits, headerOf, front-none, sealed-header, header-count, header-A, header-D, distance-is, distance-none, distance-behind}
+use Rattle.mppe_runs.specs.Run.{SealCall, Packet, History, sealRun, saidCode, first, packetOf, onward, packets, said, numbered}
 
 -- a packet that may be sealed: its plain packet is within the limit and has a protocol number that is carried
 abbrev pub Sealable : ℕ → List ℕ → Type 0
 Sealable limit plain = (outside shortestPlain limit (length plain) ≡ false) × (offProtocol plain ≡ false)
-
--- a call that the table refuses
-pub open-other : (limit far : ℕ) (l : Link) (packet lent : List ℕ) → openCode limit far l packet (length lent) ≢ done
-    → openCode limit far l packet (length lent) ≢ waiting
-    → openResult limit far l packet lent ≡ refusal (openCode limit far l packet (length lent)) l lent
-unfolding openResult
-open-other limit far l packet lent not0 not11 =
-    let code : ℕ = openCode limit far l packet (length lent) in
-    rw (ne-eqb code waiting not11) (not-done code _ (refusal code l lent) not0)
 
 module _ (s : Strength) (start : List ℕ) where
   -- both ends as they are when m packets are sealed: the session key, the record, the history
@@ -186,10 +176,10 @@ module _ (s : Strength) (start : List ℕ) where
           (seals-on m (saidCode limit c) cs sent (c .room) λ n. seals-all n cs))
 
       -- packets are those of their numbers, counted from m
-      abbrev IsAt : ℕ → Packet → Type 0
+      abbrev pub IsAt : ℕ → Packet → Type 0
       IsAt q p = (p ≡ packetAt q (p .plain)) × Sealable limit (p .plain)
 
-      unfoldable AllAt : ℕ → List Packet → Type 0
+      unfoldable pub AllAt : ℕ → List Packet → Type 0
       AllAt m [] = Unit {0}
       AllAt m (p ∷ ps) = IsAt m p × AllAt (suc m) ps
 
@@ -208,7 +198,7 @@ module _ (s : Strength) (start : List ℕ) where
       packets-on m zero c cs e ih = ((refl, sealable c e), ih (suc m))
       packets-on m (suc n) c cs e ih = ih m
 
-      packets-at : (m : ℕ) (cs : List SealCall)
+      pub packets-at : (m : ℕ) (cs : List SealCall)
           → AllAt m (packets limit s start (historyAt m) cs)
       unfolding AllAt packets
       packets-at m [] = tt
@@ -216,7 +206,7 @@ module _ (s : Strength) (start : List ℕ) where
           rw (packet-is m (c .plain), history-next m c)
           (packets-on m (saidCode limit c) c cs refl λ n. packets-at n cs)
 
-      numbered-at : (m : ℕ) (ps : List Packet) (i : ℕ) → AllAt m ps → i < length ps
+      pub numbered-at : (m : ℕ) (ps : List Packet) (i : ℕ) → AllAt m ps → i < length ps
           → IsAt (m + i) (numbered s start ps i)
       unfolding AllAt numbered
       numbered-at m [] i all known = absurd (omega arith)
@@ -254,8 +244,7 @@ module _ (s : Strength) (start : List ℕ) where
             rows-pass (frontRows limit (recordAt m) packet) (headerRows far (recordAt m) h ++ dataRows (recordAt m) h (dataIn packet) lent) refl (line-front m q plain can)
             ∙ rw (line-header q plain, line-data q plain, header-A true (q % counts) (omega arith), header-D true (q % counts) (omega arith))
 
-        -- an arrival opens as is due
-        -- what it opens to, and what it leaves
+        -- what an arrival opens to, and what it leaves
         plain-at : (next q : ℕ) (plain : List ℕ) → keyFor (recordAt next) (headerAt q) ≡ keyAt (suc q)
             → plainFor (recordAt next) (headerAt q) (rc4 (keyAt (suc q)) plain) ≡ plain
         unfolding plainFor stateFor
@@ -266,6 +255,7 @@ module _ (s : Strength) (start : List ℕ) where
         opened-at next q left key =
             rw (key, header-count true (q % counts) (omega arith)) (unfold recordAt in record-next q)
 
+        -- so it opens as is due
         pub open-arrival : (next q : ℕ) (plain lent : List ℕ) → far < counts → Sealable limit plain → next ≤ q → q - next < far → length plain ≤ length lent
             → openResult limit far (recordAt next) (packetAt q plain .octets) lent
             ≡ finished (suc (q - next)) (recordAt (suc q)) (written plain lent)
@@ -301,40 +291,3 @@ module _ (s : Strength) (start : List ℕ) where
             let away : ℕ = awayFor (recordAt next) (headerAt q) in
             line-code next q plain lent can
             ∙ rw (ne-eqb away 0 (λ z. omega (arith, made, z)), lt-ltb far away (omega (arith, made)))
-
-        -- the receiver's results
-        opens-all : (most : ℕ) (ps : List Packet) (next : ℕ) (cs : List OpenCall) → far < counts → most < far
-            → AllAt 0 ps → Meets limit far s start ps most next (recordAt next) cs
-            → openRun limit far (recordAt next) cs ≡ due limit far s start ps next (recordAt next) cs
-        unfolding openRun due Meets
-        opens-all most ps next [] bound below all line = refl
-        opens-all most ps next (arrival q octets lent ∷ cs) bound below all (known, low, near, same, fits, rest) =
-            let plain : List ℕ = numbered s start ps q .plain in
-            let (at, can) = numbered-at 0 ps q all known in
-            let is : numbered s start ps q ≡ packetAt q plain = rw (zero-add q) at at in
-            let link : numbered s start ps q .link ≡ recordAt (suc q) = ap (λ (p : Packet). p .link) is ∙ unfold packetAt in refl in
-            let opened : openResult limit far (recordAt next) octets lent ≡ finished (suc (q - next)) (recordAt (suc q)) (written plain lent) =
-            rw (same ∙ ap (λ (p : Packet). p .octets) is) (open-arrival next q plain lent bound can low (omega arith) fits) in
-            rw (opened, link)
-            (ap (λ (rs : List Result). finished (suc (q - next)) (recordAt (suc q)) (written plain lent) ∷ rs)
-            (opens-all most ps (suc q) cs bound below all (subst (λ (l : Link). Meets limit far s start ps most (suc q) l cs) link rest)))
-        opens-all most ps next (other octets lent ∷ cs) bound below all (not0, rest) =
-            let r : Result = refusal (openCode limit far (recordAt next) octets (length lent)) (recordAt next) lent in
-            rw (open-other limit far (recordAt next) octets lent not0 (no-waiting limit far (recordAt next) octets (length lent) (unfold recordAt in refl)))
-            (ap (λ (rs : List Result). r ∷ rs) (opens-all most ps next cs bound below all rest))
-
--- demand 3 for every limit, every farthest distance and every number lost in a row below it
-pub demand-3 : (limit far most : ℕ) → far < counts → most < far → Demand3 limit far most
-unfolding Demand3
-demand-3 limit far most bound below s start ok seals opens line =
-    let h = start-length s start ok in
-    let sealed : List Packet = packets limit s start (historyAt s start 0) seals in
-    let beginning-is : beginning s start ≡ historyAt s start 0 = unfold historyAt keyAt changes in refl in
-    let line-is : Meets limit far s start sealed most 0 (recordAt s start 0) opens =
-    subst₂ (λ (b : History) (l : Link). Meets limit far s start (packets limit s start b seals) most 0 l opens) beginning-is (first-is s start h) line in
-    rw (first-is s start h, beginning-is)
-    (seals-all s start h limit 0 seals, opens-all s start h limit far most sealed 0 opens bound below (packets-at s start h limit 0 seals) line-is)
-
--- demand 3 at the users' limits
-pub demand-3-base : Demand3 longestPlain farthest mostLost
-demand-3-base = demand-3 longestPlain farthest mostLost (lit< tt) (lit< tt)
