@@ -1,7 +1,7 @@
 -- what the contracts of the public calls cite
 pub mod Host
--- demand 3 for a program in C: the claim
+-- demand 3 and M-105 for a program in C: the claims
 pub mod Run
--- what follows from both: calls on a record's octets, refused calls, and the claim's proof
+-- what follows from both: calls on a record's octets, refused calls, and the claims' proofs
 pub mod Laws
-pub mod Demand3
+pub mod InC

@@ -1,6 +1,6 @@
--- Demand 3 for a program in C, in the words of 01, "The run of demand 3": the two lists of calls, each end with a record in 295 lent
--- octets. The history, its packets, what is asked of the line, and what is said and due are those of crates/mppe_runs/specs/Run.antt.
--- `Demand3InC` at the end is the claim.
+-- Demand 3 and M-105 for a program in C, in the words of 01, "The run of demand 3": the two lists of calls, each end with a record in 295
+-- lent octets. The history, its packets, what is asked of the line, and what is said and due are those of crates/mppe_runs, Run.antt and
+-- AnyOrderRun.antt. `Demand3InC` and `AnyOrderInC` at the end are the claims.
 use mathlib.Core.Path.{_≡_}
 use mathlib.Core.Bool.{false}
 use mathlib.Core.List.{List, [], _∷_, map}
@@ -10,6 +10,7 @@ use Rattle.answer.specs.Answer.{done}
 use Rattle.mppe_keys.specs.declared.Strength.{Strength}
 use Rattle.mppe.specs.Link.{longestPlain, farthest}
 use Rattle.mppe_runs.specs.Run.{mostLost, SealCall, OpenCall, octetsLent, roomLent, Packet, first, beginning, packets, said, Meets, due}
+use Rattle.mppe_runs.specs.AnyOrderRun.{mostAhead, mostBehind, MeetsAny, dueAny}
 use Rattle.mppe_record.specs.Record.{strengthOf, recordLength}
 use Rattle.host.specs.Host.{Linked, newLinkGiven, linkedBy, sealLinked, openLinked}
 
@@ -38,3 +39,14 @@ Demand3InC =
     Meets longestPlain farthest s start sealed mostLost 0 (first s start) opens
     → (sealsLinked sender seals ≡ map linkedBy (said longestPlain s start (beginning s start) (first s start) seals))
     × (opensLinked receiver opens ≡ map linkedBy (due longestPlain farthest s start sealed 0 (first s start) opens))
+
+-- the same with packets in any order
+unfoldable pub AnyOrderInC : Type 0
+AnyOrderInC =
+    (bits : ℕ) (start sender receiver : List ℕ) → Begun bits start sender → Begun bits start receiver
+    → (seals : List SealCall) (opens : List OpenCall)
+    → let s : Strength = strengthOf bits in
+    let sealed : List Packet = packets longestPlain s start (beginning s start) seals in
+    MeetsAny longestPlain farthest s start sealed mostAhead mostBehind 0 (first s start) opens
+    → (sealsLinked sender seals ≡ map linkedBy (said longestPlain s start (beginning s start) (first s start) seals))
+    × (opensLinked receiver opens ≡ map linkedBy (dueAny longestPlain farthest s start sealed 0 (first s start) opens))

@@ -252,7 +252,20 @@ report-bound limit far l packet out = go (openCode limit far l packet (length ou
         by true w = near (clear late (take 7 rows) refl (rows-passed waiting (take 7 rows) (drop 7 rows) refl (e ∙ eqb-true (suc n) waiting w)) .0)
         by false w = omega arith
 
--- what open gives where its table refuses, but for 11
+-- open answers the first number that applies
+pub open-answers : (limit far : ℕ) (l : Link) (packet out : List ℕ) → openResult limit far l packet out .outcome .answer ≡ openCode limit far l packet (length out)
+unfolding openResult
+open-answers limit far l packet out = go (openCode limit far l packet (length out))
+  where
+    by : (code : ℕ) (t : Bool) → eqb code waiting ≡ t → pick t (waited l (headerIn packet) out) (refusal code l out) .outcome .answer ≡ code
+    by code true e = sym (eqb-true code waiting e)
+    by code false e = refl
+
+    go : (code : ℕ) → openedBy code l (headerIn packet) (dataIn packet) out .outcome .answer ≡ code
+    go zero = refl
+    go (suc n) = by (suc n) (eqb (suc n) waiting) refl
+
+-- what it gives where its table refuses, but for 11
 pub open-other : (limit far : ℕ) (l : Link) (packet lent : List ℕ) → openCode limit far l packet (length lent) ≢ done
     → openCode limit far l packet (length lent) ≢ waiting
     → openResult limit far l packet lent ≡ refusal (openCode limit far l packet (length lent)) l lent

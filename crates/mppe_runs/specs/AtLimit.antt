@@ -14,7 +14,7 @@ use Rattle.mppe.specs.Link.{longestPlain, farthest, newLink, Result}
 use Rattle.mppe_runs.specs.Run.{mostLost, SealCall, OpenCall, arrival, Packet, History, first, beginning, saidCode, packetOf, onward, packets, numbered, openRun, Meets, due, Demand3}
 use Rattle.mppe_runs.specs.Demand3.{demand-3-base}
 
-abbrev plain : List ℕ
+abbrev pub plain : List ℕ
 plain = 0x00 ∷ 0x21 ∷ []
 
 abbrev call : SealCall
@@ -30,19 +30,19 @@ middle = suc early + mostLost
 abbrev wrapped : ℕ
 wrapped = suc middle + mostLost
 
-abbrev calls : ℕ → List SealCall
+abbrev pub calls : ℕ → List SealCall
 calls n = replicate n call
 
 module _ (s : Strength) (start : List ℕ) where
-  sealed-length : (n : ℕ) (h : History) → length (packets longestPlain s start h (calls n)) ≡ n
+  pub sealed-length : (n : ℕ) (h : History) → length (packets longestPlain s start h (calls n)) ≡ n
   unfolding packets saidCode
   sealed-length zero h = refl
   sealed-length (suc n) h = ap suc (sealed-length n (onward longestPlain s start h call))
 
-  sealed-plain : (n i : ℕ) (h : History) → i < n → length (numbered s start (packets longestPlain s start h (calls n)) i .plain) ≤ 2
+  pub sealed-plain : (n i : ℕ) (h : History) → i < n → numbered s start (packets longestPlain s start h (calls n)) i .plain ≡ plain
   unfolding packets saidCode numbered packetOf
   sealed-plain zero i h low = absurd (omega arith)
-  sealed-plain (suc n) zero h low = lit≤ tt
+  sealed-plain (suc n) zero h low = refl
   sealed-plain (suc n) (suc i) h low = sealed-plain n i (onward longestPlain s start h call) (omega arith)
 
   abbrev pub sealed : ℕ → List Packet
@@ -58,15 +58,13 @@ module _ (s : Strength) (start : List ℕ) where
   unfolding Meets
   meets n h =
       let long = sealed-length n (beginning s start) in
-      let early-fits = sealed-plain n early (beginning s start) (omega arith) in
-      let middle-fits = sealed-plain n middle (beginning s start) (omega arith) in
-      let wrapped-fits = sealed-plain n wrapped (beginning s start) h in (
+      let fits : (q : ℕ) → q < n → length (numbered s start (sealed n) q .plain) ≤ 2 = λ q low. rw (sealed-plain n q (beginning s start) low) (lit≤ tt) in (
         omega (arith, long),
         lit≤ tt,
         lit≤ tt,
         refl,
-        early-fits,
-        (omega (arith, long), lit≤ tt, lit≤ tt, refl, middle-fits, (omega (arith, long), lit≤ tt, lit≤ tt, refl, wrapped-fits, tt)),
+        fits early (omega arith),
+        (omega (arith, long), lit≤ tt, lit≤ tt, refl, fits middle (omega arith), (omega (arith, long), lit≤ tt, lit≤ tt, refl, fits wrapped h, tt)),
       )
 
   -- the key changes that open reports

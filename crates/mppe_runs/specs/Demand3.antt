@@ -1,54 +1,44 @@
 -- Demand 3, proved: for every limit of a plain packet, every farthest distance below the number of counts, and every number of packets
--- lost in a row below it.
-use mathlib.Core.Path.{_≡_, refl, ap, subst, subst₂, _∙_}
+-- lost in a row below it. It follows from M-105: numbers that rise are one order of many.
+use mathlib.Core.Path.{_≡_, refl, ap, _∙_}
+use mathlib.Core.Bool.{false}
 use mathlib.Core.List.{List, [], _∷_}
 use Prim.Native.Nat.{ℕ, suc, _-_, _<_}
-use native.Mathlib.Nat.{zero-add}
 use native.Mathlib.Omega.{arith}
-use lib.Dec.{lit<}
+use lib.Dec.{ltb, lit<}
 use lib.ListN.{length}
+use borrow.Author.Tests.{le-ltb}
 use Rattle.octets.specs.Octets.{written}
 use Rattle.mppe_keys.specs.declared.Strength.{Strength}
-use Rattle.mppe_keys.specs.Keys.{keyLength, changes}
 use Rattle.mppe.specs.declared.Link.{Link}
-use Rattle.mppe.specs.Link.{longestPlain, counts, farthest, Result, finished, refusal, openCode, openResult}
-use Rattle.mppe.specs.Laws.{open-other, no-waiting}
-use Rattle.mppe_runs.specs.Run.{mostLost, OpenCall, arrival, other, Packet, History, openRun, beginning, packets, numbered, Meets, due, Demand3}
-use Rattle.mppe_runs.specs.Line.{keyAt, recordAt, historyAt, packetAt, start-length, first-is, seals-all, AllAt, packets-at, numbered-at, open-arrival}
+use Rattle.mppe.specs.Link.{longestPlain, counts, farthest, Result, finished, refusal, openCode}
+use Rattle.mppe_runs.specs.Run.{mostLost, OpenCall, arrival, other, Packet, beginning, first, packets, numbered, Meets, due, Demand3}
+use Rattle.mppe_runs.specs.AnyOrderRun.{MeetsAny, dueAny, AnyOrder}
+use Rattle.mppe_runs.specs.AnyOrder.{any-order}
 
-module _ (s : Strength) (start : List ℕ) (h : length start ≡ keyLength s) (limit far : ℕ) where
-  -- the receiver's results
-  opens-all : (most : ℕ) (ps : List Packet) (next : ℕ) (cs : List OpenCall) → far < counts → most < far
-      → AllAt s start h limit 0 ps → Meets limit far s start ps most next (recordAt s start next) cs
-      → openRun limit far (recordAt s start next) cs ≡ due limit far s start ps next (recordAt s start next) cs
-  unfolding openRun due Meets
-  opens-all most ps next [] bound below all line = refl
-  opens-all most ps next (arrival q octets lent ∷ cs) bound below all (known, low, near, same, fits, rest) =
-      let plain : List ℕ = numbered s start ps q .plain in
-      let (at, can) = numbered-at s start h limit 0 ps q all known in
-      let is : numbered s start ps q ≡ packetAt s start q plain = rw (zero-add q) at at in
-      let link : numbered s start ps q .link ≡ recordAt s start (suc q) = ap (λ (p : Packet). p .link) is ∙ unfold packetAt in refl in
-      let opened : openResult limit far (recordAt s start next) octets lent ≡ finished (suc (q - next)) (recordAt s start (suc q)) (written plain lent) =
-      rw (same ∙ ap (λ (p : Packet). p .octets) is) (open-arrival s start h limit far next q plain lent bound can low (omega arith) fits) in
-      rw (opened, link)
-      (ap (λ (rs : List Result). finished (suc (q - next)) (recordAt s start (suc q)) (written plain lent) ∷ rs)
-      (opens-all most ps (suc q) cs bound below all (subst (λ (l : Link). Meets limit far s start ps most (suc q) l cs) link rest)))
-  opens-all most ps next (other octets lent ∷ cs) bound below all (not0, rest) =
-      let r : Result = refusal (openCode limit far (recordAt s start next) octets (length lent)) (recordAt s start next) lent in
-      rw (open-other limit far (recordAt s start next) octets lent not0 (no-waiting limit far (recordAt s start next) octets (length lent) (unfold recordAt in refl)))
-      (ap (λ (rs : List Result). r ∷ rs) (opens-all most ps next cs bound below all rest))
+-- a line that demand 3 allows is one that M-105 allows with none behind, and the same is due on it
+rising : (limit far : ℕ) (s : Strength) (start : List ℕ) (ps : List Packet) (most next : ℕ) (held : Link) (cs : List OpenCall)
+    → Meets limit far s start ps most next held cs
+    → MeetsAny limit far s start ps (suc most) 0 next held cs × (dueAny limit far s start ps next held cs ≡ due limit far s start ps next held cs)
+unfolding Meets MeetsAny due dueAny
+rising limit far s start ps most next held [] line = (tt, refl)
+rising limit far s start ps most next held (arrival q octets room ∷ cs) (known, low, near, same, fits, rest) =
+    let p : Packet = numbered s start ps q in
+    let ahead : ltb q next ≡ false = le-ltb q next low in
+    let (line, later) = rising limit far s start ps most (suc q) (p .link) cs rest in
+    rw ahead
+    ((known, omega arith, omega arith, same, (λ _. fits), line), ap (λ (rs : List Result). finished (suc (q - next)) (p .link) (written (p .plain) room) ∷ rs) later)
+rising limit far s start ps most next held (other octets room ∷ cs) (not0, rest) =
+    let (line, later) = rising limit far s start ps most next held cs rest in
+    ((not0, line), ap (λ (rs : List Result). refusal (openCode limit far held octets (length room)) held room ∷ rs) later)
 
 -- demand 3 for every limit, every farthest distance and every number lost in a row below it
 pub demand-3 : (limit far most : ℕ) → far < counts → most < far → Demand3 limit far most
-unfolding Demand3
+unfolding Demand3 AnyOrder
 demand-3 limit far most bound below s start ok seals opens line =
-    let h = start-length s start ok in
-    let sealed : List Packet = packets limit s start (historyAt s start 0) seals in
-    let beginning-is : beginning s start ≡ historyAt s start 0 = unfold historyAt keyAt changes in refl in
-    let line-is : Meets limit far s start sealed most 0 (recordAt s start 0) opens =
-    subst₂ (λ (b : History) (l : Link). Meets limit far s start (packets limit s start b seals) most 0 l opens) beginning-is (first-is s start h) line in
-    rw (first-is s start h, beginning-is)
-    (seals-all s start h limit 0 seals, opens-all s start h limit far most sealed 0 opens bound below (packets-at s start h limit 0 seals) line-is)
+    let (line-any, same) = rising limit far s start (packets limit s start (beginning s start) seals) most 0 (first s start) opens line in
+    let (said, due) = any-order limit far (suc most) 0 (omega arith) (omega arith) s start ok seals opens line-any in
+    (said, due ∙ same)
 
 -- demand 3 at the users' limits
 pub demand-3-base : Demand3 longestPlain farthest mostLost

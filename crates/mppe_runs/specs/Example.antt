@@ -37,7 +37,7 @@ abbrev plain₃ : List ℕ
 plain₃ = 0x00 ∷ 0x57 ∷ 0x60 ∷ []
 
 -- octets that are no packet
-abbrev noise : List ℕ
+abbrev pub noise : List ℕ
 noise = 0x00 ∷ 0xFD ∷ []
 
 -- the number that a call answers
@@ -100,7 +100,7 @@ module _ (s : Strength) (start : List ℕ) where
   unfolding openCode
   noise-at h m = rw (well-at s start h m)
 
-  noise-first : length start ≡ keyLength s → openCode longestPlain farthest (first s start) noise 0 ≡ shape
+  pub noise-first : length start ≡ keyLength s → openCode longestPlain farthest (first s start) noise 0 ≡ shape
   noise-first h = rw (first-is s start h) (noise-at h 0)
 
   noise-next : length start ≡ keyLength s → openCode longestPlain farthest (numbered s start four 1 .link) noise 0 ≡ shape

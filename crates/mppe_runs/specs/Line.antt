@@ -128,12 +128,12 @@ module _ (s : Strength) (start : List ℕ) where
     unfolding recordAt changesOver
     away-at next q = refl
 
-    key-at : (next q : ℕ) → changesFor (recordAt next) (headerAt q) ≡ suc (q - next) → next ≤ q → keyFor (recordAt next) (headerAt q) ≡ keyAt (suc q)
+    key-at : (next q r : ℕ) → changesFor (recordAt next) (headerAt q) ≡ suc (r - next) → next ≤ r → keyFor (recordAt next) (headerAt q) ≡ keyAt (suc r)
     unfolding keyFor recordAt
-    key-at next q e low =
-        let all : next + suc (q - next) ≡ suc q = omega arith in
-        let add : changes s start (suc (q - next)) (keyAt next) ≡ keyAt (next + suc (q - next)) =
-        unfold keyAt in changes-add s start next (suc (q - next)) (initialKey s start) in
+    key-at next q r e low =
+        let all : next + suc (r - next) ≡ suc r = omega arith in
+        let add : changes s start (suc (r - next)) (keyAt next) ≡ keyAt (next + suc (r - next)) =
+        unfold keyAt in changes-add s start next (suc (r - next)) (initialKey s start) in
         rw (e, start-in next, session-in next) (add ∙ ap keyAt all)
 
     -- `limit` is the longest plain packet
@@ -264,7 +264,7 @@ module _ (s : Strength) (start : List ℕ) where
             let text : List ℕ = rc4 (keyAt (suc q)) plain in
             let long : length text ≡ length plain = run-length (keySchedule (keyAt (suc q))) plain in
             let made : changesFor (recordAt next) (headerAt q) ≡ suc (q - next) = rw (changes-at next q) (distance-is next q low (omega arith)) in
-            let key = key-at next q made low in
+            let key = key-at next q q made low in
             let opened = plain-at next q plain key in
             let away : awayFor (recordAt next) (headerAt q) ≡ suc (q - next) = away-at next q ∙ made in
             let new : eqb (awayFor (recordAt next) (headerAt q)) 0 ≡ false =
@@ -291,3 +291,28 @@ module _ (s : Strength) (start : List ℕ) where
             let away : ℕ = awayFor (recordAt next) (headerAt q) in
             line-code next q plain lent can
             ∙ rw (ne-eqb away 0 (λ z. omega (arith, made, z)), lt-ltb far away (omega (arith, made)))
+
+        -- one farther ahead than is opened is late too, though it is new
+        pub beyond-code : (next q : ℕ) (plain : List ℕ) (lent : ℕ) → Sealable limit plain → next + far ≤ q → suc q < next + counts
+            → openCode limit far (recordAt next) (packetAt q plain .octets) lent ≡ late
+        beyond-code next q plain lent can low near =
+            let away : ℕ = awayFor (recordAt next) (headerAt q) in
+            let made : away ≡ suc (q - next) = away-at next q ∙ changes-at next q ∙ distance-is next q (omega arith) (omega arith) in
+            line-code next q plain lent can ∙ rw (ne-eqb away 0 (λ z. omega (arith, made, z)), lt-ltb far away (omega (arith, made)))
+
+        -- and one too far behind is taken for one ahead: neither 6 nor 10 applies, and the receiver opens it with the key of the packet that
+        -- has its count one round later
+        pub round-code : (next q : ℕ) (plain : List ℕ) (lent : ℕ) → Sealable limit plain → far < counts → suc q + counts ≤ next + far → next ≤ q + counts
+            → (openCode limit far (recordAt next) (packetAt q plain .octets) lent
+            ≡ firstOf (dataRows (recordAt next) (headerIn (packetAt q plain .octets)) (dataIn (packetAt q plain .octets)) lent))
+            × (keyFor (recordAt next) (headerIn (packetAt q plain .octets)) ≡ keyAt (suc (q + counts)))
+        round-code next q plain lent can bound near low =
+            let round : q % counts ≡ (q + counts) % counts = omega arith in
+            let made : changesFor (recordAt next) (headerAt q) ≡ suc (q + counts - next) =
+            changes-at next q ∙ ap (distance ((next + newCount) % counts)) round ∙ distance-is next (q + counts) low (omega arith) in
+            let away : ℕ = awayFor (recordAt next) (headerAt q) in
+            let is : away ≡ suc (q + counts - next) = away-at next q ∙ made in
+            rw (line-header q plain, line-data q plain) (
+              line-code next q plain lent can ∙ rw (ne-eqb away 0 (λ z. omega (arith, is, z)), le-ltb far away (omega (arith, is))),
+              key-at next q (q + counts) made low,
+            )
