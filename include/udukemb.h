@@ -281,9 +281,10 @@ UDUKEMB_MUST_USE uint8_t udukemb_seal(
  * MPPE has no check of its own on the octets: a packet that was altered on the line may answer 0 and open to other
  * octets than were sealed. What is promised is that an unaltered packet opens to what was sealed, if at most 2,047 were
  * lost just before it.
- * In stateless mode packets may come in any order, repeated or lost: one that is 1 to 2,048 ahead of the newest opened
- * opens; the newest itself answers 6 and one up to 2,047 behind it 10, neither changes anything, and what comes late is
- * lost. One that is still farther behind is taken for one that is ahead, and deciphered with the wrong key.
+ * A packet that comes late, up to 2,047 behind the last one opened, is refused and changes nothing; it is lost. One
+ * that is still farther behind is taken for one that is ahead, and deciphered with the wrong key.
+ * So in stateless mode packets may come in any order, repeated or lost: each that is 1 to 2,048 ahead of the newest
+ * opened opens, and every other that is at most 2,047 behind answers 6, if it is the newest itself, or 10.
  * In stateful mode a packet without bit A opens only if the one sealed before it was opened. Every other answers 11:
  * nothing is written into `out`, but the next record is written, and waits. Write a Reset-Request and send it; the
  * sender's next packet then has bit A, and opens. A packet altered on the line may answer 11 too, as it may answer 0,
