@@ -1,0 +1,41 @@
+/* Calls of a run of a link. Each is compared: the library's whole answer must be the oracle's. */
+#ifndef STEPS_H
+#define STEPS_H
+
+#include "making.h"
+
+/* The run's seed, the calls made, and the packets opened in pieces beside the one call. */
+struct steps {
+    unsigned long seed, calls, walked;
+};
+extern struct steps steps;
+
+/* The last call: its case, of which the numbers are set before it, and what the library gave. */
+extern test asked;
+extern answer given;
+
+/* Starts anew, from a stream of a seed. */
+void start_steps(unsigned long seed, unsigned long stream);
+
+/* Ends the program where a run does not go as the papers say. */
+void demand(bool held, const char *what);
+
+/* One call, with a buffer of its own; its record, or what else is lent to it first, is handed back. */
+void step(const call *c, octets *record, const octets *input, size_t room);
+
+/* The key changes that the last call reports; none where it is a feed. */
+unsigned reported(void);
+
+/* Seal calls until one is not refused; its plain packet and its packet are kept. */
+void seal_call(octets *sender, octets *plain, octets *packet);
+
+/* A call of open, with room lent; now and then the same packet in pieces before it. */
+void open_call(octets *receiver, const octets *packet, size_t room);
+
+/* A call of open that must leave the record as it was. */
+void refuse(octets *receiver, const octets *packet, size_t room);
+
+/* Now and then some calls of open that the table refuses, beside a packet. */
+void disturb(octets *receiver, const octets *packet);
+
+#endif
