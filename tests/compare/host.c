@@ -1,8 +1,10 @@
 /* The large comparison of the calls that a C host makes: cases from a seed, answered by the oracle and by the library through
-   include/udukemb.h; then whole runs of a link in each mode (runs.h). Arguments: the seed, and how many cases for each call. */
+   include/udukemb.h; then whole runs of a link in each mode (runs.h), and packets in any order (order.h). Arguments: the seed, and
+   how many cases for each call. */
 #include "guard.h"
 #include "host.h"
 #include "links.h"
+#include "order.h"
 #include "runs.h"
 #include "udukemb.h"
 
@@ -565,7 +567,7 @@ static void every_number_came(void)
     }
 }
 
-/* Compares every call, then runs of a link in each mode. */
+/* Compares every call, then runs of a link in each mode, then packets in any order. */
 int main(int count, char **words)
 {
     unsigned long seed, cases, total;
@@ -577,6 +579,7 @@ int main(int count, char **words)
     total = compare_calls(calls, CALLS, seed, cases);
     total += compare_runs(seed, cases, false);
     total += compare_runs(seed, cases, true);
+    total += compare_order(seed);
     every_number_came();
     printf("%lu calls of the C host, all equal\n", total);
     return 0;

@@ -11,6 +11,9 @@ enum { CELLS = 256 };
 /* The places of a walk's fields behind its record. */
 enum { AT_LIVE = RECORD_OCTETS, AT_HEADER = 296, AT_NEXT = 298, AT_DRAWN = 314, AT_TOTAL = 572, AT_FED = 574, AT_FIRST = 576 };
 
+/* How far behind the last one opened a packet may be, and is late. */
+enum { MOST_BEHIND = COUNTS - FARTHEST - 1 };
+
 /* The bit of a packet's third octet that says that RC4 is keyed afresh, and the lowest octet of the counts that change a stateful key. */
 enum { BIT_A = 0x80, CHANGE = 0xFF };
 

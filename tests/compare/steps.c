@@ -27,7 +27,7 @@ void start_steps(unsigned long seed, unsigned long stream)
     steps = (struct steps){.seed = seed};
 }
 
-/* Ends the program where a run does not go as demand 3, M-103 and M-104 say. */
+/* Ends the program where a run does not go as demand 3 and M-103 to M-105 say. */
 void demand(bool held, const char *what)
 {
     if (held)
@@ -226,14 +226,28 @@ void open_call(octets *receiver, const octets *packet, size_t room)
         as_one_call(receiver);
 }
 
-/* A call of open that must leave the record as it was. */
+/* The buffers at entry and at exit. */
+bool unwritten(size_t from)
+{
+    return memcmp(given.lent[1].at + from, asked.lent[1].at + from, asked.lent[1].n - from) == 0;
+}
+
+/* The octets behind the plain packet are as they were. */
+void opened_as_sealed(const octets *receiver, part plain, const octet sender[RECORD_OCTETS])
+{
+    demand(given.number == DONE, "an arrival is refused");
+    demand(memcmp(given.lent[1].at, plain.at, plain.n) == 0, "an arrival opens to other octets");
+    demand(unwritten(plain.n), "an arrival is written beyond its plain packet");
+    demand(memcmp(sender, receiver->at, RECORD_OCTETS) == 0, "the records differ");
+}
+
+/* Nothing is reported either. */
 void refuse(octets *receiver, const octets *packet, size_t room)
 {
-    static octets record;
-
-    copy(&record, receiver);
     open_call(receiver, packet, room);
-    demand(memcmp(record.at, receiver->at, RECORD_OCTETS) == 0, "a refused call changes the record");
+    demand(memcmp(asked.lent[0].at, receiver->at, RECORD_OCTETS) == 0, "a refused call changes the record");
+    demand(unwritten(0), "a refused call writes into the buffer");
+    demand(reported() == 0, "a refused call reports key changes");
 }
 
 /* A call of open that the table refuses, but not with 11: a damaged packet, a repeat, or too little room. Of those with hundreds of key

@@ -32,7 +32,13 @@ void seal_call(octets *sender, octets *plain, octets *packet);
 /* A call of open, with room lent; now and then the same packet in pieces before it. */
 void open_call(octets *receiver, const octets *packet, size_t room);
 
-/* A call of open that must leave the record as it was. */
+/* Whether the last call left its buffer as it was, from an octet of it on. */
+bool unwritten(size_t from);
+
+/* The last call of open opened a packet to what was sealed, and left the sender's record of then. */
+void opened_as_sealed(const octets *receiver, part plain, const octet sender[RECORD_OCTETS]);
+
+/* A call of open that must change nothing. */
 void refuse(octets *receiver, const octets *packet, size_t room);
 
 /* Now and then some calls of open that the table refuses, beside a packet. */
