@@ -196,10 +196,13 @@ octet oracle_rc4_draw(octet state[RC4_STATE])
 /* Whether no two cells of the box are the same. */
 int oracle_rc4_permutation(const octet state[RC4_STATE])
 {
-    for (int a = 0; a < 256; a++)
-        for (int b = 0; b < a; b++)
-            if (state[a] == state[b])
-                return 0;
+    bool seen[256] = {false};
+
+    for (int k = 0; k < 256; k++) {
+        if (seen[state[k]])
+            return 0;
+        seen[state[k]] = true;
+    }
     return 1;
 }
 
