@@ -11,7 +11,7 @@ use Rattle.mppe_keys.specs.declared.Mode.the-variants.{Stateless}
 use Rattle.mppe_keys.specs.Keys.{bitsOf}
 use Rattle.mppe.specs.declared.Link.{Link}
 use Rattle.mppe.specs.Link.{Result, longestPlain, farthest, newLink, newLinkCode, sealResult, openResult}
-use Rattle.mppe_runs.specs.Run.{SealCall, OpenCall, octetsLent, roomLent, first, sealRun, openRun, Demand3}
+use Rattle.mppe_runs.specs.Run.{SealCall, OpenCall, octetsLent, roomLent, Packet, first, beginning, sealRun, openRun, packets, said, Demand3}
 use Rattle.mppe_runs.specs.AnyOrderRun.{AnyOrder}
 use Rattle.mppe_runs.specs.Demand3.{demand-3-base}
 use Rattle.mppe_runs.specs.AnyOrder.{any-order-base}
@@ -19,7 +19,7 @@ use Rattle.mppe_record.specs.Record.{strengthOf, recordLength, recordOctets}
 use Rattle.mppe_record.specs.Laws.{bits-back, bits-known, Sized, recordOctets-length, new-sized, seal-sized, open-sized}
 use Rattle.host.specs.Host.{Given, Linked, newLinkGiven, linkedBy, linked, sealLinked, openLinked}
 use Rattle.host.specs.Laws.{linked-on, given-fits, new-whole}
-use Rattle.host.specs.Run.{Begun, sealsLinked, opensLinked, Demand3InC, AnyOrderInC}
+use Rattle.host.specs.Run.{Begun, sealsLinked, opensLinked, RunInC, Demand3InC, AnyOrderInC}
 
 -- a call and the calls behind it: where those agree, so do all
 module _ (call : Link → Result) (behindInC : List ℕ → List Linked) (behind : Link → List Result) where
@@ -65,27 +65,27 @@ begun-is bits start octets (lent, long, e) =
     let (ok, whole) = new-whole bits false start lent long (ap (λ (g : Given). g .code) e) in
     (ok, sym (ap (λ (g : Given). g .buffer) e) ∙ whole)
 
--- so what both lists give on records, they give on octets
-runs-linked : (bits : ℕ) (start sender receiver : List ℕ) → Begun bits start sender → Begun bits start receiver
-    → (seals : List SealCall) (opens : List OpenCall) (said due : List Result)
-    → (newLink (strengthOf bits) Stateless start .answer ≡ done
-    → (sealRun longestPlain (first (strengthOf bits) start) seals ≡ said) × (openRun longestPlain farthest (first (strengthOf bits) start) opens ≡ due))
-    → (sealsLinked sender seals ≡ map linkedBy said) × (opensLinked receiver opens ≡ map linkedBy due)
-runs-linked bits start sender receiver sent received seals opens said due claim =
+-- so a claim about both lists of calls on records is one about both lists of calls on octets
+in-c : (asked : Strength → List ℕ → List Packet → List OpenCall → Type 0) (owed : Strength → List ℕ → List Packet → List OpenCall → List Result)
+    → ((s : Strength) (start : List ℕ) → newLink s Stateless start .answer ≡ done → (seals : List SealCall) (opens : List OpenCall)
+    → asked s start (packets longestPlain s start (beginning s start) seals) opens
+    → (sealRun longestPlain (first s start) seals ≡ said longestPlain s start (beginning s start) (first s start) seals)
+    × (openRun longestPlain farthest (first s start) opens ≡ owed s start (packets longestPlain s start (beginning s start) seals) opens))
+    → RunInC asked owed
+unfolding RunInC
+in-c asked owed claim bits start sender receiver sent received seals opens line =
     let s : Strength = strengthOf bits in
     let (ok, sender-is) = begun-is bits start sender sent in
     let (_, receiver-is) = begun-is bits start receiver received in
-    let (said-is, due-is) = claim ok in
+    let (said-is, owed-is) = claim s start ok seals opens line in
     let sized : Sized (first s start) = new-sized s Stateless start in
     rw (sender-is, receiver-is)
-    (seals-linked seals (first s start) sized ∙ ap (map linkedBy) said-is, opens-linked opens (first s start) sized ∙ ap (map linkedBy) due-is)
+    (seals-linked seals (first s start) sized ∙ ap (map linkedBy) said-is, opens-linked opens (first s start) sized ∙ ap (map linkedBy) owed-is)
 
 pub demand-3-in-c : Demand3InC
 unfolding Demand3InC Demand3
-demand-3-in-c bits start sender receiver sent received seals opens line =
-    runs-linked bits start sender receiver sent received seals opens _ _ λ ok. demand-3-base (strengthOf bits) start ok seals opens line
+demand-3-in-c = in-c _ _ demand-3-base
 
 pub any-order-in-c : AnyOrderInC
 unfolding AnyOrderInC AnyOrder
-any-order-in-c bits start sender receiver sent received seals opens line =
-    runs-linked bits start sender receiver sent received seals opens _ _ λ ok. any-order-base (strengthOf bits) start ok seals opens line
+any-order-in-c = in-c _ _ any-order-base

@@ -8,7 +8,7 @@ use Prim.Native.Nat.{ℕ}
 use lib.ListN.{length}
 use Rattle.answer.specs.Answer.{done}
 use Rattle.mppe_keys.specs.declared.Strength.{Strength}
-use Rattle.mppe.specs.Link.{longestPlain, farthest}
+use Rattle.mppe.specs.Link.{longestPlain, farthest, Result}
 use Rattle.mppe_runs.specs.Run.{mostLost, SealCall, OpenCall, octetsLent, roomLent, Packet, first, beginning, packets, said, Meets, due}
 use Rattle.mppe_runs.specs.AnyOrderRun.{mostAhead, mostBehind, MeetsAny, dueAny}
 use Rattle.mppe_record.specs.Record.{strengthOf, recordLength}
@@ -28,25 +28,26 @@ unfoldable pub opensLinked : List ℕ → List OpenCall → List Linked
 opensLinked octets [] = []
 opensLinked octets (c ∷ cs) = let r : Linked = openLinked octets (octetsLent c) (roomLent c) in r ∷ opensLinked (r .octets) cs
 
--- "This is a single claim about the two lists": each seal call answers, writes and leaves in its record's octets what the history says,
--- and each open call answers, reports, writes and leaves there what is due; every record as its octets
+-- "This is a single claim about the two lists": where the line is as it is asked to be, each seal call answers, writes and leaves in its
+-- record's octets what the history says, and each open call answers, reports, writes and leaves there what is due; every record as its
+-- octets. What is asked and what is due come from the strength, the start key, the packets sealed and the open calls.
+unfoldable pub RunInC : (asked : Strength → List ℕ → List Packet → List OpenCall → Type 0)
+    (owed : Strength → List ℕ → List Packet → List OpenCall → List Result) → Type 0
+RunInC asked owed =
+    (bits : ℕ) (start sender receiver : List ℕ) → Begun bits start sender → Begun bits start receiver
+    → (seals : List SealCall) (opens : List OpenCall)
+    → let s : Strength = strengthOf bits in
+    let sealed : List Packet = packets longestPlain s start (beginning s start) seals in
+    asked s start sealed opens
+    → (sealsLinked sender seals ≡ map linkedBy (said longestPlain s start (beginning s start) (first s start) seals))
+    × (opensLinked receiver opens ≡ map linkedBy (owed s start sealed opens))
+
 unfoldable pub Demand3InC : Type 0
 Demand3InC =
-    (bits : ℕ) (start sender receiver : List ℕ) → Begun bits start sender → Begun bits start receiver
-    → (seals : List SealCall) (opens : List OpenCall)
-    → let s : Strength = strengthOf bits in
-    let sealed : List Packet = packets longestPlain s start (beginning s start) seals in
-    Meets longestPlain farthest s start sealed mostLost 0 (first s start) opens
-    → (sealsLinked sender seals ≡ map linkedBy (said longestPlain s start (beginning s start) (first s start) seals))
-    × (opensLinked receiver opens ≡ map linkedBy (due longestPlain farthest s start sealed 0 (first s start) opens))
+    RunInC (λ s start sealed opens. Meets longestPlain farthest s start sealed mostLost 0 (first s start) opens)
+    (λ s start sealed opens. due longestPlain farthest s start sealed 0 (first s start) opens)
 
--- the same with packets in any order
 unfoldable pub AnyOrderInC : Type 0
 AnyOrderInC =
-    (bits : ℕ) (start sender receiver : List ℕ) → Begun bits start sender → Begun bits start receiver
-    → (seals : List SealCall) (opens : List OpenCall)
-    → let s : Strength = strengthOf bits in
-    let sealed : List Packet = packets longestPlain s start (beginning s start) seals in
-    MeetsAny longestPlain farthest s start sealed mostAhead mostBehind 0 (first s start) opens
-    → (sealsLinked sender seals ≡ map linkedBy (said longestPlain s start (beginning s start) (first s start) seals))
-    × (opensLinked receiver opens ≡ map linkedBy (dueAny longestPlain farthest s start sealed 0 (first s start) opens))
+    RunInC (λ s start sealed opens. MeetsAny longestPlain farthest s start sealed mostAhead mostBehind 0 (first s start) opens)
+    (λ s start sealed opens. dueAny longestPlain farthest s start sealed 0 (first s start) opens)
