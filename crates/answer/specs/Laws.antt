@@ -14,6 +14,15 @@ pub both : (a b : Bool) → a && b ≡ true → (a ≡ true) × (b ≡ true)
 both true b e = (refl, e)
 both false b e = absurd (false≢true e)
 
+-- what a test picks: from what holds either way, and under a function
+pub by-test : {A : Type 0} {x a b : A} (t : Bool) → (t ≡ true → x ≡ a) → (t ≡ false → x ≡ b) → x ≡ pick t a b
+by-test true f g = f refl
+by-test false f g = g refl
+
+pub test-under : {A B : Type 0} (f : A → B) (t : Bool) (a b : A) → f (pick t a b) ≡ pick t (f a) (f b)
+test-under f true a b = refl
+test-under f false a b = refl
+
 -- a table while its rows are looked at in turn: the number that it gives, and the rows behind those that do not apply
 pub record Passed : Type 0 where
   pub code : ℕ

@@ -66,21 +66,21 @@ begun-is bits start octets (lent, long, e) =
     (ok, sym (ap (λ (g : Given). g .buffer) e) ∙ whole)
 
 -- so a claim about both lists of calls on records is one about both lists of calls on octets
-in-c : (asked : Strength → List ℕ → List Packet → List OpenCall → Type 0) (owed : Strength → List ℕ → List Packet → List OpenCall → List Result)
+in-c : (schedule : Strength → List ℕ → List Packet → List OpenCall → Type 0) (results : Strength → List ℕ → List Packet → List OpenCall → List Result)
     → ((s : Strength) (start : List ℕ) → newLink s Stateless start .answer ≡ done → (seals : List SealCall) (opens : List OpenCall)
-    → asked s start (packets longestPlain s start (beginning s start) seals) opens
+    → schedule s start (packets longestPlain s start (beginning s start) seals) opens
     → (sealRun longestPlain (first s start) seals ≡ said longestPlain s start (beginning s start) (first s start) seals)
-    × (openRun longestPlain farthest (first s start) opens ≡ owed s start (packets longestPlain s start (beginning s start) seals) opens))
-    → RunInC asked owed
+    × (openRun longestPlain farthest (first s start) opens ≡ results s start (packets longestPlain s start (beginning s start) seals) opens))
+    → RunInC schedule results
 unfolding RunInC
-in-c asked owed claim bits start sender receiver sent received seals opens line =
+in-c schedule results claim bits start sender receiver sent received seals opens line =
     let s : Strength = strengthOf bits in
     let (ok, sender-is) = begun-is bits start sender sent in
     let (_, receiver-is) = begun-is bits start receiver received in
-    let (said-is, owed-is) = claim s start ok seals opens line in
+    let (said-is, results-are) = claim s start ok seals opens line in
     let sized : Sized (first s start) = new-sized s Stateless start in
     rw (sender-is, receiver-is)
-    (seals-linked seals (first s start) sized ∙ ap (map linkedBy) said-is, opens-linked opens (first s start) sized ∙ ap (map linkedBy) owed-is)
+    (seals-linked seals (first s start) sized ∙ ap (map linkedBy) said-is, opens-linked opens (first s start) sized ∙ ap (map linkedBy) results-are)
 
 pub demand-3-in-c : Demand3InC
 unfolding Demand3InC Demand3

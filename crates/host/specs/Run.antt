@@ -28,19 +28,19 @@ unfoldable pub opensLinked : List ℕ → List OpenCall → List Linked
 opensLinked octets [] = []
 opensLinked octets (c ∷ cs) = let r : Linked = openLinked octets (octetsLent c) (roomLent c) in r ∷ opensLinked (r .octets) cs
 
--- "This is a single claim about the two lists": where the line is as it is asked to be, each seal call answers, writes and leaves in its
--- record's octets what the history says, and each open call answers, reports, writes and leaves there what is due; every record as its
--- octets. What is asked and what is due come from the strength, the start key, the packets sealed and the open calls.
-unfoldable pub RunInC : (asked : Strength → List ℕ → List Packet → List OpenCall → Type 0)
-    (owed : Strength → List ℕ → List Packet → List OpenCall → List Result) → Type 0
-RunInC asked owed =
+-- "This is a single claim about the two lists": where the open calls meet the schedule, each seal call answers, writes and leaves in its
+-- record's octets what the history says, and each open call answers, reports, writes and leaves there what the results say; every record
+-- as its octets. Schedule and results come from the strength, the start key, the packets sealed and the open calls.
+unfoldable pub RunInC : (schedule : Strength → List ℕ → List Packet → List OpenCall → Type 0)
+    (results : Strength → List ℕ → List Packet → List OpenCall → List Result) → Type 0
+RunInC schedule results =
     (bits : ℕ) (start sender receiver : List ℕ) → Begun bits start sender → Begun bits start receiver
     → (seals : List SealCall) (opens : List OpenCall)
     → let s : Strength = strengthOf bits in
     let sealed : List Packet = packets longestPlain s start (beginning s start) seals in
-    asked s start sealed opens
+    schedule s start sealed opens
     → (sealsLinked sender seals ≡ map linkedBy (said longestPlain s start (beginning s start) (first s start) seals))
-    × (opensLinked receiver opens ≡ map linkedBy (owed s start sealed opens))
+    × (opensLinked receiver opens ≡ map linkedBy (results s start sealed opens))
 
 unfoldable pub Demand3InC : Type 0
 Demand3InC =

@@ -11,6 +11,7 @@ use lib.Dec.{eqb, ltb, lit<, lit≤}
 use lib.ListN.{length}
 use borrow.Author.Tests.{ltb-true, ltb-false, eqb-true, eqb-false}
 use Rattle.answer.specs.Answer.{done, repeat, late, pick}
+use Rattle.answer.specs.Laws.{by-test, test-under}
 use Rattle.octets.specs.Octets.{written}
 use Rattle.mppe_keys.specs.declared.Strength.{Strength}
 use Rattle.mppe_keys.specs.Keys.{keyLength, changes}
@@ -20,15 +21,6 @@ use Rattle.mppe.specs.Laws.{open-other, no-waiting}
 use Rattle.mppe_runs.specs.Run.{OpenCall, arrival, other, Packet, History, openRun, beginning, packets, numbered}
 use Rattle.mppe_runs.specs.AnyOrderRun.{mostAhead, mostBehind, dueTo, nextAfter, MeetsAny, dueAny, AnyOrder}
 use Rattle.mppe_runs.specs.Line.{Sealable, keyAt, recordAt, historyAt, packetAt, start-length, first-is, seals-all, AllAt, packets-at, numbered-at, open-arrival, repeat-code, late-code}
-
--- what a test picks: from what holds either way, and under a function
-by-test : {A : Type 0} {x a b : A} (t : Bool) → (t ≡ true → x ≡ a) → (t ≡ false → x ≡ b) → x ≡ pick t a b
-by-test true f g = f refl
-by-test false f g = g refl
-
-test-under : {A B : Type 0} (f : A → B) (t : Bool) (a b : A) → f (pick t a b) ≡ pick t (f a) (f b)
-test-under f true a b = refl
-test-under f false a b = refl
 
 module _ (s : Strength) (start : List ℕ) (h : length start ≡ keyLength s) (limit far : ℕ) where
   -- a call that the table refuses changes nothing

@@ -175,12 +175,12 @@ module _ (s : Strength) (start : List ℕ) where
       never late (dataRows (recordAt s start 2049) (headerIn packet) (dataIn packet) 2) refl refl
       (sym code ∙ sym (open-answers longestPlain farthest (recordAt s start 2049) packet room) ∙ answer)
 
--- a new link to run on
-abbrev zeros : List ℕ
-zeros = replicate 8 0
+-- a start key to make the link with
+abbrev key : List ℕ
+key = replicate 8 0
 
 pub no-farther-ahead : AnyOrder longestPlain farthest (suc mostAhead) mostBehind → ⊥
-no-farther-ahead = farther-ahead Bits40 zeros (unfold newLink in refl) 2049 (lit< tt)
+no-farther-ahead = farther-ahead Bits40 key (unfold newLink in refl) 2049 (lit< tt)
 
 pub no-farther-behind : AnyOrder longestPlain farthest mostAhead (suc mostBehind) → ⊥
-no-farther-behind = farther-behind Bits40 zeros (unfold newLink in refl) 2049 (lit< tt)
+no-farther-behind = farther-behind Bits40 key (unfold newLink in refl) 2049 (lit< tt)

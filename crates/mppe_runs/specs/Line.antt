@@ -283,24 +283,27 @@ module _ (s : Strength) (start : List ℕ) where
         repeat-code q plain lent can =
             line-code (suc q) q plain lent can ∙ rw (eq-eqb (awayFor (recordAt (suc q)) (headerAt q)) 0 (away-at (suc q) q ∙ changes-at (suc q) q ∙ distance-none q))
 
-        -- one that it has overtaken is late
+        -- one beyond the farthest distance is late: one that it has overtaken ..
+        beyond-farthest : (next q : ℕ) (plain : List ℕ) (lent : ℕ) → Sealable limit plain → far < awayFor (recordAt next) (headerAt q)
+            → openCode limit far (recordAt next) (packetAt q plain .octets) lent ≡ late
+        beyond-farthest next q plain lent can beyond =
+            let away : ℕ = awayFor (recordAt next) (headerAt q) in
+            line-code next q plain lent can ∙ rw (ne-eqb away 0 (λ z. omega (arith, beyond, z)), lt-ltb far away beyond)
+
         pub late-code : (next q : ℕ) (plain : List ℕ) (lent : ℕ) → Sealable limit plain → suc q < next → far + (next - suc q) < counts
             → openCode limit far (recordAt next) (packetAt q plain .octets) lent ≡ late
         late-code next q plain lent can low near =
             let made = away-at next q ∙ changes-at next q ∙ distance-behind next q low (omega arith) in
-            let away : ℕ = awayFor (recordAt next) (headerAt q) in
-            line-code next q plain lent can
-            ∙ rw (ne-eqb away 0 (λ z. omega (arith, made, z)), lt-ltb far away (omega (arith, made)))
+            beyond-farthest next q plain lent can (omega (arith, made))
 
-        -- one farther ahead than is opened is late too, though it is new
+        -- .. and one farther ahead than is opened, though it is new
         pub beyond-code : (next q : ℕ) (plain : List ℕ) (lent : ℕ) → Sealable limit plain → next + far ≤ q → suc q < next + counts
             → openCode limit far (recordAt next) (packetAt q plain .octets) lent ≡ late
         beyond-code next q plain lent can low near =
-            let away : ℕ = awayFor (recordAt next) (headerAt q) in
-            let made : away ≡ suc (q - next) = away-at next q ∙ changes-at next q ∙ distance-is next q (omega arith) (omega arith) in
-            line-code next q plain lent can ∙ rw (ne-eqb away 0 (λ z. omega (arith, made, z)), lt-ltb far away (omega (arith, made)))
+            let made = away-at next q ∙ changes-at next q ∙ distance-is next q (omega arith) (omega arith) in
+            beyond-farthest next q plain lent can (omega (arith, made))
 
-        -- and one too far behind is taken for one ahead: neither 6 nor 10 applies, and the receiver opens it with the key of the packet that
+        -- one too far behind is taken for one ahead: neither 6 nor 10 applies, and the receiver opens it with the key of the packet that
         -- has its count one round later
         pub round-code : (next q : ℕ) (plain : List ℕ) (lent : ℕ) → Sealable limit plain → far < counts → suc q + counts ≤ next + far → next ≤ q + counts
             → (openCode limit far (recordAt next) (packetAt q plain .octets) lent
