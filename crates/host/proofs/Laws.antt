@@ -10,7 +10,7 @@ use lib.Seq.{take-all, take-at}
 use borrow.Author.Tests.{lt-ltb, le-ltb}
 use Rattle.answer.specs.Answer.{done, room, size, notRecord, strength, pick, firstOf, onDone, wrong, oneCode, twoCode}
 use Rattle.answer.specs.Laws.{rows-pass, rows-stop, not-done, right, not-right}
-use Rattle.octets.specs.Octets.{written, writtenAt}
+use Rattle.octets.specs.Octets.{Octets, written, writtenAt}
 use Rattle.octets.specs.Laws.{copy-fits}
 use Rattle.mschap.specs.declared.Hash.{Hash}
 use Rattle.mschap.specs.Lengths.{responseLength}
@@ -37,7 +37,7 @@ use Rattle.mppe.specs.declared.Outcome.{Outcome}
 use Rattle.mppe.specs.Link.{Result, longestPlain, farthest, newLink}
 use Rattle.mppe_record.specs.declared.RecordRead.{RecordRead}
 use Rattle.mppe_record.specs.Record.{strengthOf, noStrength, recordLength, recordOctets, recordRead}
-use Rattle.mppe_record.specs.Laws.{read-length, Octets}
+use Rattle.mppe_record.specs.Laws.{read-length}
 use Rattle.mppe_pieces.specs.declared.Walk.{Walk}
 use Rattle.mppe_pieces.specs.declared.Step.{Step}
 use Rattle.mppe_pieces.specs.Walk.{Fed, beginStep, feedResult}

@@ -10,13 +10,14 @@ use lib.ListN.{length, take, replicate, drop-of-length-le}
 use borrow.Author.Tests.{le-ltb}
 use Rattle.answer.specs.Answer.{done, shape, notRecord, strength, waiting, pick, onDone}
 use Rattle.answer.specs.Laws.{right}
+use Rattle.octets.specs.Octets.{Octets}
 use Rattle.mppe_keys.specs.declared.Strength.{Strength}
 use Rattle.mppe_keys.specs.Keys.{byMode, modeIf}
 use Rattle.mppe.specs.declared.Link.{Link}
 use Rattle.mppe.specs.Link.{Result, longestPlain, farthest, newLink, newLinkCode, withBox, headerIn, refusal, sealCode, sealResult, waited, openCode, openResult, resetCode, resetOutcome}
 use Rattle.mppe.specs.Laws.{report-bound}
 use Rattle.mppe_record.specs.Record.{strengthOf, noStrength, recordLength, recordOctets, recordRead}
-use Rattle.mppe_record.specs.Laws.{Sized, Octets, recordOctets-length, reads-back, writes-back, new-sized}
+use Rattle.mppe_record.specs.Laws.{Sized, recordOctets-length, reads-back, writes-back, new-sized}
 use Rattle.mppe_pieces.specs.declared.Walk.{Walk}
 use Rattle.mppe_pieces.specs.declared.Step.{Step}
 use Rattle.mppe_pieces.specs.Walk.{Fed, over, onWith, beginStep, closes, feedResult, endStep}

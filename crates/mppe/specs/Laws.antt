@@ -21,7 +21,7 @@ use Rattle.mppe_keys.specs.declared.Mode.the-variants.{Stateless, Stateful}
 use Rattle.mppe_keys.specs.Keys.{keyLength, byMode, headOf, begins, keyChange, changes, placed}
 use Rattle.mppe_keys.specs.Laws.{key-least, head-most, keyChange-length, keyChange-head}
 use Rattle.mppe.specs.declared.Link.{Link}
-use Rattle.mppe.specs.Link.{shortestPlain, front, counts, newCount, zeros, boxFits, wellFormed, startKeyIn, linkOf, keyFor, boxFor, stateFor, linkAfter, bitA, bitD, header, packetOn, headerIn, countOf, lacks, dataIn, distance, endings, changesOver, awayFor, changesFor, frontRows, dataRows, refusal, waited, openRows, openCode, openedBy, openResult}
+use Rattle.mppe.specs.Link.{shortestPlain, front, counts, newCount, zeros, boxFits, wellFormed, startKeyIn, linkOf, withBox, renewed, keptBox, keyFor, boxFor, stateFor, linkAfter, bitA, bitD, header, packetOn, headerIn, countOf, lacks, dataIn, distance, endings, changesOver, awayFor, changesFor, frontRows, dataRows, refusal, waited, openRows, openCode, openedBy, openResult}
 
 -- zeros are zeros
 pub zeros-all : (n : ℕ) → zeros (replicate n 0) ≡ true
@@ -128,14 +128,18 @@ changed-well s start session (suc n) h =
       begins-front (headOf s) key (replicate (16 - length key) 0) (keyChange-head s start _),
     )
 
--- the box that a packet is opened with
-pub state-box : (l : Link) (h : ℕ) → Box (l .state) → Box (stateFor l h)
-unfolding stateFor boxFor
-state-box l h held = picked-box (lacks bitA h) _ _ (go (changesFor l h)) (keyed-box (keyFor l h))
+-- the box that a record has once it has moved on to a header, and the one that the packet is opened with
+header-box : (l : Link) (h : ℕ) → Box (l .state) → Box (boxFor l h)
+unfolding boxFor
+header-box l h held = go (changesFor l h)
   where
     go : (n : ℕ) → Box (onDone n (l .state) (keySchedule (keyFor l h)))
     go zero = held
     go (suc n) = keyed-box (keyFor l h)
+
+pub state-box : (l : Link) (h : ℕ) → Box (l .state) → Box (stateFor l h)
+unfolding stateFor
+state-box l h held = picked-box (lacks bitA h) _ _ (header-box l h held) (keyed-box (keyFor l h))
 
 -- the box that a record keeps after draws
 fits-after : (mode : Mode) (state drawn : Rc4) (mark : Bool) → (Box state → Box drawn) → boxFits mode state mark ≡ true
@@ -143,21 +147,35 @@ fits-after : (mode : Mode) (state drawn : Rc4) (mark : Bool) → (Box state → 
 fits-after Stateless state drawn mark next fits = rw (fits-unmarked Stateless state mark refl fits) at fits
 fits-after Stateful state drawn mark next fits = unfold boxFits in rw (next (both (permutation (state .cells)) true (unfold boxFits in fits) .0))
 
--- the record after an opened packet is well formed
-pub after-well : (l : Link) (h : ℕ) (text : List ℕ) → wellFormed l ≡ true → wellFormed (linkAfter l h text) ≡ true
+-- a record that has moved on to a header's count and key, with a box and a mark that its mode asks for, is well formed ..
+moved-well : (l : Link) (h : ℕ) (state : Rc4) (mark : Bool) → wellFormed l ≡ true → boxFits (l .mode) state mark ≡ true
+    → wellFormed (withBox (renewed l (keyFor l h) (countOf h)) state mark) ≡ true
 unfolding wellFormed keyFor
-after-well l h text whole =
+moved-well l h state mark whole fits =
     let s : Strength = l .strength in
     let count : Bool = ltb (l .count) counts in
     let start : Bool = zeros (drop (keyLength s) (l .start)) in
     let session : Bool = zeros (drop (keyLength s) (l .session)) in
     let head : Bool = begins (headOf s) (l .session) in
-    let (keys, fits) = both (count && start && session && head) (boxFits (l .mode) (l .state) (l .waiting)) whole in
+    let (keys, _) = both (count && start && session && head) (boxFits (l .mode) (l .state) (l .waiting)) whole in
     let (places, begun) = both (count && start && session) head keys in
     let zeros-start = both count start (both (count && start) session places .0) .1 in
     let (zeros-key, head-key) = changed-well s (startKeyIn l) (l .session) (changesFor l h) begun in
-    let box-after = fits-after (l .mode) (l .state) (after (stateFor l h) text) (l .waiting) (λ held. after-box (stateFor l h) text (state-box l h held)) fits in
-    rw (lt-ltb (countOf h) counts (omega arith), zeros-start, zeros-key, head-key, box-after)
+    rw (lt-ltb (countOf h) counts (omega arith), zeros-start, zeros-key, head-key, fits)
+
+-- .. so is the record after an opened packet ..
+pub after-well : (l : Link) (h : ℕ) (text : List ℕ) → wellFormed l ≡ true → wellFormed (linkAfter l h text) ≡ true
+after-well l h text whole =
+    moved-well l h (keptBox l (after (stateFor l h) text)) false whole
+    (fits-after (l .mode) (l .state) (after (stateFor l h) text) (l .waiting) (λ held. after-box (stateFor l h) text (state-box l h held)) (well-box l whole))
+
+-- .. and the one of a stateful link that waits
+waited-well : (l : Link) (h : ℕ) (out : List ℕ) → l .mode ≡ Stateful → wellFormed l ≡ true → wellFormed (waited l h out .outcome .link) ≡ true
+unfolding boxFits
+waited-well l h out mode whole = moved-well l h (boxFor l h) true whole (fits (l .mode) mode (well-box l whole))
+  where
+    fits : (m : Mode) → m ≡ Stateful → boxFits m (l .state) (l .waiting) ≡ true → boxFits m (boxFor l h) true ≡ true
+    fits m e held = let box : Box (l .state) = both (permutation (l .state .cells)) _ held .0 in rw (e, header-box l h box)
 
 -- a packet with data of a carried length passes the rows that the record and the packet's shape decide
 pub front-none : (limit : ℕ) (l : Link) (fresh : Bool) (count : ℕ) (text : List ℕ) → wellFormed l ≡ true → outside shortestPlain limit (length text) ≡ false
@@ -285,3 +303,21 @@ no-waiting limit far l packet lent mode e =
     let set : lacks bitA h ≡ false = rw mode at flag in
     let left : firstOf (drop 7 rows) ≡ waiting = sym (rows-pass (take 7 rows) (drop 7 rows) refl early) ∙ e in
     never waiting (dataRows l h (dataIn packet) lent) refl refl (rw set at left)
+
+-- open keeps a record well formed, whatever it answers
+pub open-well : (limit far : ℕ) (l : Link) (packet out : List ℕ) → wellFormed l ≡ true → wellFormed (openResult limit far l packet out .outcome .link) ≡ true
+unfolding openResult
+open-well limit far l packet out whole = go (openCode limit far l packet (length out)) refl
+  where
+    by-mode : (m : Mode) → l .mode ≡ m → openCode limit far l packet (length out) ≡ waiting → wellFormed (waited l (headerIn packet) out .outcome .link) ≡ true
+    by-mode Stateless e w = absurd (no-waiting limit far l packet (length out) e w)
+    by-mode Stateful e w = waited-well l (headerIn packet) out e whole
+
+    by : (code : ℕ) (t : Bool) → openCode limit far l packet (length out) ≡ code → eqb code waiting ≡ t
+        → wellFormed (pick t (waited l (headerIn packet) out) (refusal code l out) .outcome .link) ≡ true
+    by code true e w = by-mode (l .mode) refl (e ∙ eqb-true code waiting w)
+    by code false e w = whole
+
+    go : (code : ℕ) → openCode limit far l packet (length out) ≡ code → wellFormed (openedBy code l (headerIn packet) (dataIn packet) out .outcome .link) ≡ true
+    go zero e = after-well l (headerIn packet) (dataIn packet) whole
+    go (suc n) e = by (suc n) (eqb (suc n) waiting) e refl

@@ -9,7 +9,7 @@ use lib.ListN.{length, take, drop, getD, replicate, length-append, length-drop, 
 use lib.Seq.{length-take-le, take-all, take-at, drop-at, drop-drop, take-add, drop-cons, getD-drop}
 use borrow.Author.Tests.{eq-eqb, eqb-true, ltb-false}
 use Rattle.answer.specs.Answer.{done, size, notRecord, waiting, pick, firstOf, onDone}
-use Rattle.octets.specs.Octets.{bigEndian, pairAt}
+use Rattle.octets.specs.Octets.{Octets, bigEndian, pairAt}
 use Rattle.rc4.specs.declared.Rc4.{Rc4}
 use Rattle.rc4.specs.Cipher.{box, unkeyed, keySchedule, after}
 use Rattle.rc4.specs.Permutation.{below-length, Sized as StateSized, keyed-sized, after-sized}
@@ -168,10 +168,6 @@ read-known octets ok = go (eqb (length octets) recordLength) (firstIs octets) (n
 
 pub read-length : (octets : List ℕ) → recordRead octets .answer ≡ done → length octets ≡ recordLength
 read-length octets ok = read-known octets ok .0
-
--- numbers that are octets
-abbrev pub Octets : List ℕ → Type 0
-Octets l = (i : ℕ) → getD l i 0 < 256
 
 -- octets that hold a record, read and written back, are the same: the first 35 ..
 front-back : (octets : List ℕ) → Octets octets → length octets ≡ recordLength → firstIs octets ≡ true → frontOctets (recordIn octets) ≡ take 35 octets

@@ -11,11 +11,11 @@ use lib.Seq.{take-at, drop-at, drop-drop, take-add, drop-cons, getD-drop}
 use borrow.Author.Tests.{eq-eqb, eqb-true}
 use Rattle.answer.specs.Answer.{done, notRecord, firstOf, onDone}
 use Rattle.answer.specs.Laws.{clear, right, right-length}
-use Rattle.octets.specs.Octets.{bigEndian, pairAt}
+use Rattle.octets.specs.Octets.{Octets, bigEndian, pairAt}
 use Rattle.rc4.specs.Cipher.{box}
 use Rattle.rc4.specs.Permutation.{Sized as StateSized}
 use Rattle.mppe_record.specs.Record.{yesNumber, noChoice, recordLength, recordOctets, recordRead}
-use Rattle.mppe_record.specs.Laws.{yes-back, yes-known, pair-back, choice-is, Sized as LinkSized, recordOctets-length, reads-back as record-back, Octets, writes-back as record-kept}
+use Rattle.mppe_record.specs.Laws.{yes-back, yes-known, pair-back, choice-is, Sized as LinkSized, recordOctets-length, reads-back as record-back, writes-back as record-kept}
 use Rattle.mppe.specs.declared.Link.{Link}
 use Rattle.mppe_pieces.specs.declared.Walk.{Walk}
 use Rattle.mppe_pieces.specs.Walk.{over}

@@ -10,13 +10,13 @@ use lib.Seq.{take-all, take-append-seam, drop-cons, drop-drop, drop-append-add, 
 use borrow.Author.Tests.{lt-ltb, le-ltb, eq-eqb, ne-eqb}
 use Rattle.answer.specs.Answer.{done, shape, room, size, onDone}
 use Rattle.answer.specs.Laws.{not-done}
-use Rattle.octets.specs.Octets.{written, writtenAt}
+use Rattle.octets.specs.Octets.{written, writtenAt, onward}
 use Rattle.octets.specs.Laws.{copy-fits, drop-zeros, append-more}
 use Rattle.mschap_packets.specs.declared.Kind.{Kind}
 use Rattle.mschap_packets.specs.declared.Kind.the-variants as kinds
 use Rattle.mschap_packets.specs.declared.Challenge.{Challenge}
 use Rattle.mschap_packets.specs.declared.Response.{Response}
-use Rattle.mschap_packets.specs.Packet.{longestName, packetCode, valueSize, leastLength, header, packetOf, responseValue, part, lengthField, reserved, anySet, readCode, challengeRead, responseRead, nameOf, nameAt, onward, writeCode, writeOut, challengeCode, challengeOut, responseCode, responseOut}
+use Rattle.mschap_packets.specs.Packet.{longestName, packetCode, valueSize, leastLength, header, packetOf, responseValue, part, lengthField, reserved, anySet, readCode, challengeRead, responseRead, nameOf, nameAt, writeCode, writeOut, challengeCode, challengeOut, responseCode, responseOut}
 use Rattle.mschap_packets.specs.Laws.{earlier, length-packet, set-append}
 
 -- octets looked at one by one: one that is not zero, the next, the end

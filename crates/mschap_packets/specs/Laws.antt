@@ -13,7 +13,7 @@ use lib.Seq.{take-at, take-add, take-suc, take-append-le, take-append-seam, drop
 use borrow.Author.Tests.{ltb-false, lt-ltb, eqb-true, not-false, le-ltb, eq-eqb}
 use Rattle.answer.specs.Answer.{done, shape, size, pick, firstOf, onDone, wrong}
 use Rattle.answer.specs.Laws.{clear}
-use Rattle.octets.specs.Octets.{written}
+use Rattle.octets.specs.Octets.{Octets, written}
 use Rattle.mschap_packets.specs.declared.Kind.{Kind}
 use Rattle.mschap_packets.specs.declared.Kind.the-variants as kinds
 use Rattle.mschap_packets.specs.declared.Challenge.{Challenge}
@@ -212,10 +212,6 @@ zeros (x ∷ l) h =
 
 length-part : (at n : ℕ) (packet : List ℕ) → at + n ≤ length packet → length (part at n packet) ≡ n
 length-part at n packet h = length-take-le n (drop at packet) (omega (arith, length-drop at packet))
-
--- a list of octets, as every slice is one
-abbrev pub Octets : List ℕ → Type 0
-Octets l = (i : ℕ) → getD l i 0 < 256
 
 -- a Response's value is made of its parts
 value-again : (packet : List ℕ) → Shaped kinds.Response packet

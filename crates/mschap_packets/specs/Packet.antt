@@ -116,10 +116,6 @@ nameOf kind packet =
 unfoldable pub nameAt : Kind → List ℕ → ℕ
 nameAt kind packet = onDone (readCode kind packet) (leastLength kind) 0
 
--- the place in memory so many octets behind another: a block, and an octet in it
-abbrev pub onward : (n : ℕ) (place : ℕ × ℕ) → ℕ × ℕ
-onward n place = (place .0, n + place .1)
-
 -- what is asked of a packet to be written, with or without a wrong length in its value: "Packet writers: 3, 2"
 abbrev pub writeRows : (wrongValue : Bool) (packet name out : List ℕ) → List (ℕ × Bool)
 writeRows wrongValue packet name out =

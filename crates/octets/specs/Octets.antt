@@ -1,11 +1,15 @@
 -- Octets: numbers as octets in either order, and results written into a lent buffer.
 use mathlib.Core.List.{List, [], _∷_, _++_, reverse}
-use Prim.Native.Nat.{ℕ, zero, suc, _+_, _*_, _/_, _%_, _^_}
+use Prim.Native.Nat.{ℕ, zero, suc, _+_, _*_, _/_, _%_, _^_, _<_}
 use lib.ListN.{length, take, drop, getD}
 use lib.Dec.{leb}
 use Rattle.answer.specs.Answer.{pick}
 use Rattle.octets.specs.declared.Order.{Order}
 use Rattle.octets.specs.declared.Order.the-variants.{HighestFirst, LowestFirst}
+
+-- a list of octets, as every slice of them is one
+abbrev pub Octets : List ℕ → Type 0
+Octets l = (i : ℕ) → getD l i 0 < 256
 
 -- n as k octets, highest first
 abbrev pub bigEndian : ℕ → ℕ → List ℕ
@@ -58,6 +62,10 @@ writtenAt at result buffer = take at buffer ++ written result (drop at buffer)
 -- the first where the result has room, and otherwise the buffer as it was
 abbrev pub writtenIfRoom : (result buffer : List ℕ) → List ℕ
 writtenIfRoom result buffer = pick (leb (length result) (length buffer)) (written result buffer) buffer
+
+-- the place in memory so many octets behind another: a block, and an octet in it
+abbrev pub onward : (n : ℕ) (place : ℕ × ℕ) → ℕ × ℕ
+onward n place = (place .0, n + place .1)
 
 -- the longest text of a digest, an HMAC or RC4, and the longest key of an HMAC (01, "Lengths")
 abbrev pub longestText : ℕ
