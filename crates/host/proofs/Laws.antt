@@ -45,9 +45,16 @@ use Rattle.mppe_pieces.specs.Laws.{calls}
 use Rattle.mppe_walk.specs.declared.WalkRead.{WalkRead}
 use Rattle.mppe_walk.specs.Walk.{walkLength, walkOctets, restPut, frontRead, walkRead}
 use Rattle.mppe_walk.specs.Laws.{read-length as read-walk-length, rest-written}
+use Rattle.tape.specs.declared.Written.{Written as TapeWritten}
+use Rattle.tape.specs.declared.Next.{Next as TapeNext}
+use Rattle.tape.specs.declared.Replayed.{Replayed as TapeReplayed}
+use Rattle.tape.specs.Replay.{replayed}
 use Rattle.host.specs.declared.Reply.{Reply}
 use Rattle.host.specs.declared.Opened.{Opened}
-use Rattle.host.specs.Host.{Given, Linked, given, roleOf, directionOf, startKeyFrom, masterKeyFrom, credentialRows, startKeyGiven, choiceOctets, optionGiven, optionReply, choiceReply, noReply, replyOf, replyOctets, newLinkGiven, linkedBy, unchanged, linked, openedBy, walkedBy, stepped, walked, closedOctets, beginWalked}
+use Rattle.host.specs.declared.Written.{Written}
+use Rattle.host.specs.declared.Next.{Next}
+use Rattle.host.specs.declared.Replayed.{Replayed}
+use Rattle.host.specs.Host.{Given, Linked, given, roleOf, directionOf, startKeyFrom, masterKeyFrom, credentialRows, startKeyGiven, choiceOctets, optionGiven, optionReply, choiceReply, noReply, replyOf, replyOctets, newLinkGiven, linkedBy, unchanged, linked, openedBy, walkedBy, stepped, walked, closedOctets, beginWalked, writtenOf, nextIn, stepWith, replayLinked, replayOffset, replayedBy}
 
 -- a call's number and the lent buffer after it are those of a definition ..
 abbrev pub Gave : ℕ → List ℕ → Given → Type 0
@@ -301,3 +308,43 @@ pub walk-told : {l l′ : Linked} → l ≡ l′ → (_≡_ {A = Opened} (record
     × (l .octets ≡ l′ .octets)
 unfolding openedBy
 walk-told e = (ap openedBy e, ap (λ l. l .octets) e)
+
+-- what a tape's calls tell
+pub write-told : {w w′ : TapeWritten} → w ≡ w′ → _≡_ {A = Written} (record { answer = w .answer; length = w .length }) (writtenOf w′)
+unfolding writtenOf
+write-told e = ap writtenOf e
+
+pub read-told : {n n′ : TapeNext} → n ≡ n′ → _≡_ {A = Next} (record { answer = n .answer; start = n .start; offset = n .offset }) (nextIn n′)
+unfolding nextIn
+read-told e = ap nextIn e
+
+abbrev Told : Linked → (offset : ℕ) → (octets tape : List ℕ) (o : ℕ) (out : List ℕ) → Type 0
+Told l offset octets tape o out =
+    let l′ : Linked = replayLinked octets tape o out in
+    (_≡_ {A = Replayed} (record { answer = l .code; changes = l .changed; offset = offset }) (replayedBy l′ (replayOffset octets tape o out)))
+    × (l .octets ≡ l′ .octets) × (l .buffer ≡ l′ .buffer)
+
+replay-told : {l : Linked} {offset : ℕ} (octets tape : List ℕ) (o : ℕ) (out : List ℕ) → l ≡ replayLinked octets tape o out
+    → offset ≡ replayOffset octets tape o out → Told l offset octets tape o out
+unfolding replayedBy
+replay-told octets tape o out e eo = (rw (e, eo), ap (λ l. l .octets) e, ap (λ l. l .buffer) e)
+
+-- a replay step: the lent octets hold no record, they hold one
+pub replay-none : {read : RecordRead} (octets tape : List ℕ) (o : ℕ) (out : List ℕ) → read ≡ recordRead octets → (read .answer ≡ done → ⊥)
+    → Told (unchanged (read .answer) octets out) 0 octets tape o out
+unfolding replayLinked replayOffset
+replay-none {read} octets tape o out e h =
+    let call : (Link → Result) = λ l. stepWith l tape o out .result in
+    replay-told octets tape o out (linked-none call octets out e h) (rw (← e) (sym (not-done (read .answer) (stepWith (read .link) tape o out .offset) 0 h)))
+
+pub replay-made : {read : RecordRead} {made : TapeReplayed} {octets′ out′ : List ℕ} (octets tape : List ℕ) (o : ℕ) (out : List ℕ)
+    → read ≡ recordRead octets → read .answer ≡ done
+    → (made ≡ replayed (stepWith (read .link) tape o out)) × (out′ ≡ stepWith (read .link) tape o out .result .buffer)
+    → octets′ ≡ recordOctets (made .outcome .link)
+    → Told (record { code = made .outcome .answer; changed = made .outcome .changes; octets = octets′; buffer = out′ }) (made .offset) octets tape o out
+unfolding replayLinked replayOffset
+replay-made octets tape o out e h w eo =
+    let call : (Link → Result) = λ l. stepWith l tape o out .result in
+    let is = w .0 in
+    replay-told octets tape o out (linked-made call octets out e h (ap (λ (r : TapeReplayed). r .outcome) is, w .1) eo)
+    (ap (λ (r : TapeReplayed). r .offset) is ∙ rw (← e, h))

@@ -33,11 +33,18 @@ use Rattle.mppe_pieces.specs.declared.Step.{Step}
 use Rattle.mppe_pieces.specs.Walk.{Fed, beginStep, feedResult, endStep}
 use Rattle.mppe_walk.specs.declared.WalkRead.{WalkRead}
 use Rattle.mppe_walk.specs.Walk.{walkLength, walkOctets, frontRead, walkRead}
+use Rattle.tape.specs.declared.Written.{Written as TapeWritten}
+use Rattle.tape.specs.declared.Next.{Next as TapeNext}
+use Rattle.tape.specs.Tape.{mostGroups}
+use Rattle.tape.specs.Replay.{Step as TapeStep, held, replayStep}
 use Rattle.sstp.specs.declared.Key.{Key}
 use Rattle.sstp.specs.Binding.{baseKeyAnswer, bindingKeyAnswer}
 use Rattle.host.specs.declared.Check.{Check}
 use Rattle.host.specs.declared.Reply.{Reply}
 use Rattle.host.specs.declared.Opened.{Opened}
+use Rattle.host.specs.declared.Written.{Written}
+use Rattle.host.specs.declared.Next.{Next}
+use Rattle.host.specs.declared.Replayed.{Replayed}
 
 -- what a call that writes a result gives: its number, and the lent buffer after it
 pub record Given : Type 0 where
@@ -220,3 +227,27 @@ beginWalked octets four total lent =
     pick (wrong walkLength octets) (unchanged notRecord octets [])
     (onDone (read .answer) (walkedBy (stepped (beginStep longestPlain farthest (read .link) four total lent)))
     (unchanged (read .answer) (closedOctets octets) []))
+
+-- a tape (02, M-109): what a write and a read tell, in structs that C has
+unfoldable pub writtenOf : TapeWritten → Written
+writtenOf w = record { answer = w .answer; length = w .length }
+
+unfoldable pub nextIn : TapeNext → Next
+nextIn n = record { answer = n .answer; start = n .start; offset = n .offset }
+
+-- a replay step with a record ..
+abbrev pub stepWith : Link → (tape : List ℕ) (offset : ℕ) (out : List ℕ) → TapeStep
+stepWith l tape offset out = replayStep mostGroups longestPlain farthest (held l out) tape offset
+
+-- .. with the record in lent octets ..
+unfoldable pub replayLinked : (octets tape : List ℕ) (offset : ℕ) (out : List ℕ) → Linked
+replayLinked octets tape offset out = linked (λ l. stepWith l tape offset out .result) octets out
+
+-- .. and its offset: 0 where the octets hold no record, as for every 7
+unfoldable pub replayOffset : (octets tape : List ℕ) (offset : ℕ) (out : List ℕ) → ℕ
+replayOffset octets tape offset out =
+    let read : RecordRead = recordRead octets in
+    onDone (read .answer) (stepWith (read .link) tape offset out .offset) 0
+
+unfoldable pub replayedBy : Linked → (offset : ℕ) → Replayed
+replayedBy l offset = record { answer = l .code; changes = l .changed; offset = offset }

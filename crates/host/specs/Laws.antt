@@ -2,7 +2,7 @@
 use mathlib.Core.Path.{_≡_, refl, sym, ap, _∙_}
 use mathlib.Core.Bool.{Bool, true, false}
 use mathlib.Core.Logic.{_≢_}
-use mathlib.Core.List.{List, [], _++_, append-nil}
+use mathlib.Core.List.{List, [], _∷_, _++_, append-nil}
 use Prim.Native.Nat.{ℕ, zero, suc, _-_, _≤_}
 use native.Mathlib.Omega.{arith}
 use lib.Dec.{eqb}
@@ -14,8 +14,8 @@ use Rattle.octets.specs.Octets.{Octets}
 use Rattle.mppe_keys.specs.declared.Strength.{Strength}
 use Rattle.mppe_keys.specs.Keys.{byMode, modeIf}
 use Rattle.mppe.specs.declared.Link.{Link}
-use Rattle.mppe.specs.Link.{Result, longestPlain, farthest, newLink, newLinkCode, withBox, headerIn, refusal, sealCode, sealResult, waited, openCode, openResult, resetCode, resetOutcome}
-use Rattle.mppe.specs.Laws.{report-bound}
+use Rattle.mppe.specs.Link.{Result, longestPlain, farthest, newLink, newLinkCode, withBox, wellFormed, refusal, sealCode, sealResult, openResult, resetCode, resetOutcome}
+use Rattle.mppe.specs.Laws.{report-bound, open-answers, open-other}
 use Rattle.mppe_record.specs.Record.{strengthOf, noStrength, recordLength, recordOctets, recordRead}
 use Rattle.mppe_record.specs.Laws.{Sized, recordOctets-length, reads-back, writes-back, new-sized}
 use Rattle.mppe_pieces.specs.declared.Walk.{Walk}
@@ -24,7 +24,9 @@ use Rattle.mppe_pieces.specs.Walk.{Fed, over, onWith, beginStep, closes, feedRe
 use Rattle.mppe_pieces.specs.Laws.{calls}
 use Rattle.mppe_walk.specs.Walk.{walkLength, walkOctets, frontRead, walkRead}
 use Rattle.mppe_walk.specs.Laws.{in-front-octets, front-kept, writes-back as walk-back, read-refused, over-octets}
-use Rattle.host.specs.Host.{Given, Linked, given, newLinkGiven, linkedBy, unchanged, linked, sealLinked, openLinked, resetLinked, walkedBy, stepped, walked, feedWalked, endWalked, closedOctets, beginWalked}
+use Rattle.tape.specs.Tape.{mostGroups, longestPacket, onPacket, readAt}
+use Rattle.tape.specs.Replay.{stepOf, replayStep}
+use Rattle.host.specs.Host.{Given, Linked, given, newLinkGiven, linkedBy, unchanged, linked, sealLinked, openLinked, resetLinked, walkedBy, stepped, walked, feedWalked, endWalked, closedOctets, beginWalked, stepWith, replayLinked}
 
 -- a call on the octets of a record is the call on that record
 pub linked-on : (call : Link → Result) (l : Link) (out : List ℕ) → Sized l → linked call (recordOctets l) out ≡ linkedBy (call l)
@@ -103,26 +105,43 @@ reset-refused octets request = linked-refused NotDone (λ l. record { outcome = 
 abbrev NorWaiting : ℕ → Type 0
 NorWaiting code = (code ≢ done) × (code ≢ waiting)
 
+open-stays : (packet out : List ℕ) → Refuses NorWaiting (λ l. openResult longestPlain farthest l packet out) out
+open-stays packet out l (not0, not11) =
+    let answers = open-answers longestPlain farthest l packet out in
+    open-other longestPlain farthest l packet out (λ z. not0 (answers ∙ z)) (λ z. not11 (answers ∙ z)) ∙ ap (λ code. refusal code l out) (sym answers)
+
 pub open-refused : (octets packet out : List ℕ) → Octets octets → openLinked octets packet out .code ≢ done → openLinked octets packet out .code ≢ waiting
     → openLinked octets packet out ≡ unchanged (openLinked octets packet out .code) octets out
 unfolding openLinked
 open-refused octets packet out all not0 not11 =
-    linked-refused NorWaiting (λ l. openResult longestPlain farthest l packet out) octets out each all (not0, not11)
+    linked-refused NorWaiting (λ l. openResult longestPlain farthest l packet out) octets out (open-stays packet out) all (not0, not11)
+
+-- so is a step of a replay
+pub replay-refused : (octets tape : List ℕ) (offset : ℕ) (out : List ℕ) → Octets octets → replayLinked octets tape offset out .code ≢ done
+    → replayLinked octets tape offset out .code ≢ waiting
+    → replayLinked octets tape offset out ≡ unchanged (replayLinked octets tape offset out .code) octets out
+unfolding replayLinked
+replay-refused octets tape offset out all not0 not11 =
+    linked-refused NorWaiting (λ l. stepWith l tape offset out .result) octets out each all (not0, not11)
   where
-    each : Refuses NorWaiting (λ l. openResult longestPlain farthest l packet out) out
-    each l = unfold openResult in opens (openCode longestPlain farthest l packet (length out)) _ (waited l (headerIn packet) out) refl refl
+    each : Refuses NorWaiting (λ l. stepWith l tape offset out .result) out
+    each l = unfold replayStep in by (wellFormed l) (readAt mostGroups longestPacket tape offset .packet)
       where
-        opens : (code : ℕ) (r w : Result) → r .outcome .answer ≡ done → w .outcome .answer ≡ waiting
-            → NorWaiting (onDone code r (pick (eqb code waiting) w (refusal code l out)) .outcome .answer)
-            → onDone code r (pick (eqb code waiting) w (refusal code l out))
-            ≡ refusal (onDone code r (pick (eqb code waiting) w (refusal code l out)) .outcome .answer) l out
-        opens zero r w e e′ (not0, not11) = absurd (not0 e)
-        opens (suc n) r w e e′ (not0, not11) = by (eqb (suc n) waiting) not11
-          where
-            by : (t : Bool) → pick t w (refusal (suc n) l out) .outcome .answer ≢ waiting
-                → pick t w (refusal (suc n) l out) ≡ refusal (pick t w (refusal (suc n) l out) .outcome .answer) l out
-            by true not11 = absurd (not11 e′)
-            by false not11 = refl
+        after : ℕ
+        after = readAt mostGroups longestPacket tape offset .offset
+
+        code : ℕ
+        code = readAt mostGroups longestPacket tape offset .answer
+
+        step : Bool → List ℕ → Result
+        step well packet =
+            pick well (onPacket packet (stepOf (openResult longestPlain farthest l packet out) after) (stepOf (refusal code l out) after))
+            (stepOf (refusal notRecord l out) 0) .result
+
+        by : (well : Bool) (packet : List ℕ) → NorWaiting (step well packet .outcome .answer) → step well packet ≡ refusal (step well packet .outcome .answer) l out
+        by false packet stays = refl
+        by true [] stays = refl
+        by true (x ∷ xs) stays = open-stays (x ∷ xs) out l stays
 
 -- a refused call on a walk leaves it, or closes it by some of its numbers ..
 abbrev pub Closes : (closing : ℕ → Bool) → (Walk → Fed) → List ℕ → Type 0

@@ -8,7 +8,8 @@ ghost use Rattle.mppe_keys.specs.Answers.{keyAnswer};
 ghost use Rattle.ccp.specs.Reset.{writeResetCode, writeResetOut};
 ghost use Rattle.mppe_record.specs.Record.{recordLength, recordOctets};
 ghost use Rattle.mppe_walk.specs.Walk.{walkLength, walkOctets};
-ghost use Rattle.host.specs.Host.{given, checkOf, ntResponseGiven, authenticatorStringGiven, roleOf, directionOf, baseKeyGiven, bindingKeyGiven, startKeyFrom, masterKeyFrom, credentialRows, startKeyGiven, choiceOctets, allowedOf, optionGiven, optionReply, choiceReply, noReply, newLinkGiven, sealLinked, openLinked, openedBy, resetLinked, closedOctets, beginWalked, feedWalked, endWalked};
+ghost use Rattle.tape.specs.Tape.{mostGroups, longestPacket, nextOf, beginCode, beginOut, writeAnswer, writeOut, readAt};
+ghost use Rattle.host.specs.Host.{given, checkOf, ntResponseGiven, authenticatorStringGiven, roleOf, directionOf, baseKeyGiven, bindingKeyGiven, startKeyFrom, masterKeyFrom, credentialRows, startKeyGiven, choiceOctets, allowedOf, optionGiven, optionReply, choiceReply, noReply, newLinkGiven, sealLinked, openLinked, openedBy, resetLinked, closedOctets, beginWalked, feedWalked, endWalked, writtenOf, nextIn, replayLinked, replayOffset, replayedBy};
 use ccp::Choice;
 use ccp::Strengths;
 use mppe::Link;
@@ -49,6 +50,29 @@ pub struct Reply {
 pub struct Opened {
     pub answer: u8,
     pub changes: u16,
+}
+
+// The number answered, and the octets written; none where it is refused.
+#[repr(C)]
+pub struct Written {
+    pub answer: u8,
+    pub length: usize,
+}
+
+// The number answered, and where a packet stands on a tape: from `start` up to `offset`, the offset after it.
+#[repr(C)]
+pub struct Next {
+    pub answer: u8,
+    pub start: usize,
+    pub offset: usize,
+}
+
+// The number answered, the key changes made, and the offset after the packet.
+#[repr(C)]
+pub struct Replayed {
+    pub answer: u8,
+    pub changes: u16,
+    pub offset: usize,
 }
 
 // Whether a received NT-Response is the one that the password gives.
@@ -345,6 +369,72 @@ pub extern "C" fn udukemb_end(walk: &mut [u8]) -> Opened
     Opened {
         answer: ended.answer,
         changes: ended.changes,
+    }
+}
+
+// Begins a tape.
+#[no_mangle]
+pub extern "C" fn udukemb_tape_begin(out: &mut [u8]) -> u8
+    ensures { λ r. ⌜ (r ≡ beginCode (now (out .entry))) × (now (out .exit) ≡ beginOut (now (out .entry))) ⌝ }
+{
+    tape::begin(out)
+}
+
+// Writes the record of a packet, behind the octets of a tape that are there.
+#[no_mangle]
+pub extern "C" fn udukemb_tape_write(packet: &[u8], out: &mut [u8]) -> Written
+    ensures { λ r. ⌜ (r ≡ writtenOf (writeAnswer mostGroups longestPacket (now (packet .entry)) (now (out .entry))))
+        × (now (out .exit) ≡ writeOut mostGroups longestPacket (now (packet .entry)) (now (out .entry))) ⌝ }
+{
+    let written = tape::write(packet, out);
+    Written {
+        answer: written.answer,
+        length: written.length,
+    }
+}
+
+// Reads a tape at an offset.
+#[no_mangle]
+pub extern "C" fn udukemb_tape_read(tape: &[u8], offset: usize) -> Next
+    ensures { λ r. ⌜ r ≡ nextIn (nextOf (readAt mostGroups longestPacket (now (tape .entry)) offset)) ⌝ }
+{
+    let next = tape::read(tape, offset);
+    Next {
+        answer: next.answer,
+        start: next.start,
+        offset: next.offset,
+    }
+}
+
+// One step of a replay, with the record in lent octets.
+#[no_mangle]
+pub extern "C" fn udukemb_tape_replay(
+    link_record: &mut [u8],
+    tape: &[u8],
+    offset: usize,
+    out: &mut [u8],
+) -> Replayed
+    ensures { λ r. ⌜ (r ≡ replayedBy (replayLinked (now (link_record .entry)) (now (tape .entry)) offset (now (out .entry)))
+        (replayOffset (now (link_record .entry)) (now (tape .entry)) offset (now (out .entry))))
+        × (now (link_record .exit) ≡ replayLinked (now (link_record .entry)) (now (tape .entry)) offset (now (out .entry)) .octets)
+        × (now (out .exit) ≡ replayLinked (now (link_record .entry)) (now (tape .entry)) offset (now (out .entry)) .buffer) ⌝ }
+{
+    let read = read_record(link_record);
+    if read.answer != answer::DONE {
+        return Replayed {
+            answer: read.answer,
+            changes: 0,
+            offset: 0,
+        };
+    }
+    let link = read.link;
+    let replayed = tape::replay(link, tape, offset, out);
+    let outcome = replayed.outcome;
+    put_record(outcome.link, link_record);
+    Replayed {
+        answer: outcome.answer,
+        changes: outcome.changes,
+        offset: replayed.offset,
     }
 }
 
