@@ -1,6 +1,6 @@
 /*
- * Udukemb for C: MS-CHAPv2 responses and checks, MPPE start keys, the MPPE option, a link's packets, and the SSTP
- * binding key. Link with libudukemb.a, for x86-64 Linux; it needs nothing but memcpy and memset.
+ * Udukemb for C: MS-CHAPv2 responses and checks, MPPE start keys, the MPPE option, a link's packets, tapes of packets,
+ * and the SSTP binding key. Link with libudukemb.a, for x86-64 Linux; it needs nothing but memcpy and memset.
  *
  * Every call
  *   - takes any octets of any length. A lent part is a pointer and its length in octets; a part of length 0 may have a
@@ -8,21 +8,21 @@
  *   - keeps nothing, allocates nothing and has no state of its own, so any thread may make it. What is lent to it must
  *     not be used elsewhere meanwhile.
  *   - answers a number of those below: the first that applies, in the order in which they are named with it, or 0.
- *   - changes no lent octet where it answers another number than 0, but for the record of an open or begin that answers
- *     11, and for what stands behind the record of a walk that a refused begin, feed or end closes. On 0 the result
- *     stands in front of the buffer lent for it, and the octets behind it stay as they were; that of a feed stands
- *     behind what was fed before, which stays too.
+ *   - changes no lent octet where it answers another number than 0, but for the record of an open, begin or replay step
+ *     that answers 11, and for what stands behind the record of a walk that a refused begin, feed or end closes. On 0
+ *     the result stands in front of the buffer lent for it, and the octets behind it stay as they were; that of a feed
+ *     stands behind what was fed before, which stays too.
  *   - takes a bool that is true or false, and nothing else in its place.
  *
  * Nothing in place: what is lent for writing must not overlap anything else that is lent to the same call. No proof
  * speaks of such a call. Seal a packet over its own plain packet, and today's archive answers 0 and leaves a packet
  * that opens to other octets, or not at all.
  *
- * Time: in stateless mode `udukemb_open` and `udukemb_begin` make as many key changes as the packet's count is ahead of
- * the last one, 1 to 2,048, before it can be seen whether the protocol number inside is right. So a packet at the
- * farthest distance costs a millisecond or two even if it is then refused with 4, and whoever can put octets on the
- * line can make every packet cost that much. In stateful mode there are at most 8. How long a call takes is not proved,
- * nor that its time keeps a secret.
+ * Time: in stateless mode `udukemb_open`, `udukemb_begin` and `udukemb_tape_replay` make as many key changes as the
+ * packet's count is ahead of the last one, 1 to 2,048, before it can be seen whether the protocol number inside is
+ * right. So a packet at the farthest distance costs a millisecond or two even if it is then refused with 4, and whoever
+ * can put octets on the line can make every packet cost that much. In stateful mode there are at most 8. How long a
+ * call takes is not proved, nor that its time keeps a secret.
  *
  * Secrets: what a call works with remains on the stack below its caller's frame, the password's hash, start keys and
  * session keys among it. Nothing wipes it; where others may read that memory later, overwrite it.
@@ -44,7 +44,12 @@
  *       udukemb_reset                   1300
  *       udukemb_seal                    3700
  *       udukemb_start_key                900
+ *       udukemb_tape_begin               200
+ *       udukemb_tape_read                200
+ *       udukemb_tape_replay             5000
+ *       udukemb_tape_write               200
  *       udukemb_write_reset              200
+ * The four of a tape are guesses, and not measured yet.
  */
 
 #ifndef UDUKEMB_H
@@ -56,7 +61,7 @@
 
 /* The version of this interface: a new major number may break a program, a new minor one adds to it. */
 #define UDUKEMB_VERSION_MAJOR 3
-#define UDUKEMB_VERSION_MINOR 1
+#define UDUKEMB_VERSION_MINOR 2
 
 /* A call whose answer is not looked at is warned of, where the compiler can. */
 #if defined(__GNUC__)
@@ -72,9 +77,9 @@ extern "C" {
 /* The numbers a call may answer. */
 enum {
     UDUKEMB_DONE = 0,     /* no refusal applies */
-    UDUKEMB_SHAPE = 1,    /* a packet, option or request has a wrong length or fixed field; or an end comes early */
+    UDUKEMB_SHAPE = 1,    /* a packet, option, request or tape has a wrong length or fixed field; an end comes early */
     UDUKEMB_ROOM = 2,     /* the buffer for the result is shorter than it */
-    UDUKEMB_SIZE = 3,     /* another length lies outside its limits; or a piece goes beyond the total */
+    UDUKEMB_SIZE = 3,     /* another length, or an offset, lies outside its limits; a piece goes beyond the total */
     UDUKEMB_PROTOCOL = 4, /* the plain protocol number is outside 0x0021 to 0x00FA */
     UDUKEMB_FLAGS = 5,    /* bit D of an MPPE header is 0, or in stateless mode bit A */
     UDUKEMB_REPEAT = 6,   /* the count equals the last one */
@@ -109,7 +114,9 @@ enum {
     UDUKEMB_LONGEST_PLAIN = 1498,
     UDUKEMB_PACKET_FRONT = 4,          /* a sealed packet is this much longer than its plain packet */
     UDUKEMB_SHORTEST_PACKET = 6,
-    UDUKEMB_LONGEST_PACKET = 1502
+    UDUKEMB_LONGEST_PACKET = 1502,
+    UDUKEMB_TAPE_START = 1,            /* what stands in front of a tape's records, and so the first one's offset */
+    UDUKEMB_LONGEST_TAPE_RECORD = 1504 /* a packet's length, one or two octets, and the packet */
 };
 
 /* A check's answer. `yes` is true exactly if the answer is 0 and every octet received is the one worked out here. */
@@ -131,6 +138,26 @@ struct udukemb_opened {
     uint8_t answer;
     uint16_t changes; /* the key changes made, at most 2,048: stateless, one more than the packets lost just before this
                          one; stateful, as many of these and this one as have a count that ends in 0xFF */
+};
+
+/* A written record's answer. Where it is not 0, `length` is 0. */
+struct udukemb_written {
+    uint8_t answer;
+    size_t length; /* the octets written */
+};
+
+/* A read's answer. The packet is the tape's part from `start` up to `offset`; where there is none, both are equal. */
+struct udukemb_next {
+    uint8_t answer;
+    size_t start;
+    size_t offset; /* the offset after the packet; where there is none, the offset given, or 0 */
+};
+
+/* A replay step's answer. Where it is neither 0 nor 11, or there is no packet, `changes` is 0. */
+struct udukemb_replayed {
+    uint8_t answer;
+    uint16_t changes; /* as in udukemb_opened */
+    size_t offset;    /* as in udukemb_next */
 };
 
 /*
@@ -379,6 +406,68 @@ UDUKEMB_MUST_USE uint8_t udukemb_feed(
  */
 UDUKEMB_MUST_USE struct udukemb_opened udukemb_end(
     uint8_t *walk, size_t walk_len);
+
+/*
+ * A tape for the bench. It keeps the packets of one direction as they arrived, damaged and repeated ones too, so that
+ * what the receiver did with them can be looked at later: lend the link record that it began with, and replay the tape
+ * step by step.
+ *
+ * A tape is the octet 1, and then a record for each packet: the packet's length, and the packet. The length, 6 to
+ * 1,502, stands in groups of seven bits, lowest first, with the top bit of an octet set when more follows, in the
+ * shortest form only: 127 is 7F, 128 is 80 01, 1,502 is DE 0B. Nothing closes a tape, so one more packet is written
+ * behind the last, and a tape of no packets is the octet 1 alone. Every tape reads back to the list of packets that it
+ * was written of, and no other octets read back to that list.
+ *
+ * An offset is UDUKEMB_TAPE_START, or one that a read or a step handed out. Keep to these: any other that lies inside a
+ * record is taken as it stands, so that octets of a packet are read as a length, and what follows as a packet.
+ *
+ * A tape holds nothing but what the line carried, and is as little secret as the line. What is replayed from it is what
+ * was sealed, so keep that, and the link record that it takes, as secret as ever.
+ */
+
+/*
+ * Begins a tape: its first octet, into `out`.
+ * Answers: 2 room, `out` has no octet.
+ */
+UDUKEMB_MUST_USE uint8_t udukemb_tape_begin(
+    uint8_t *out, size_t out_len);
+
+/*
+ * Writes the record of a packet into `out`, which is what is left of the tape's buffer: one octet more than the packet
+ * has up to a length of 127, two more from 128 on.
+ * Lengths: packet 6 to 1,502.
+ * Answers: 1 shape, the packet's length is outside its limits; 2 room, `out` is shorter than the record.
+ */
+UDUKEMB_MUST_USE struct udukemb_written udukemb_tape_write(
+    const uint8_t *packet, size_t packet_len,
+    uint8_t *out, size_t out_len);
+
+/*
+ * Reads a tape at an offset: where its next packet starts, and the offset after it. At the tape's end the answer is 0,
+ * with no packet and the offset given.
+ * Answers: 1 shape, the tape has no octet or does not begin with 1, and 3 size, the offset is 0 or past the tape's end,
+ * both with offset 0; 1 shape, what stands at the offset is no record, with the offset given: its length is outside 6
+ * to 1,502, in a longer form or of three groups, or the tape ends before the record does.
+ */
+UDUKEMB_MUST_USE struct udukemb_next udukemb_tape_read(
+    const uint8_t *tape, size_t tape_len,
+    size_t offset);
+
+/*
+ * One step of a replay: reads the next packet and opens it, as `udukemb_tape_read` and `udukemb_open` do. Where there
+ * is a packet, the step gives the offset after it, also where the packet is refused. So the steps from
+ * UDUKEMB_TAPE_START to the end do exactly what opening the packets in turn into the same buffer does. At the tape's
+ * end the answer is 0, with no key changes and the offset given, and link record and `out` stay as they were.
+ * Lengths: record 295, exactly.
+ * Answers: 7 record, `link_record` is not 295 octets that hold a well formed record, with offset 0; 1 shape and 3 size,
+ * as for `udukemb_tape_read`, with its offset; then for the packet 1 shape, 5 flags, 6 repeat, 10 late, 11 waiting, 2
+ * room and 4 protocol, as for `udukemb_open`, and 11 moves the link record in the same way.
+ */
+UDUKEMB_MUST_USE struct udukemb_replayed udukemb_tape_replay(
+    uint8_t *link_record, size_t link_record_len,
+    const uint8_t *tape, size_t tape_len,
+    size_t offset,
+    uint8_t *out, size_t out_len);
 
 #ifdef __cplusplus
 }
