@@ -2,64 +2,19 @@
  * A pump station logs in at the control room, both work out the link's keys, and readings go over a line that loses one of
  * them and brings another late. Setpoints come back in pieces over a stateful modem that loses one, waits, asks and goes on.
  * It shows what a program in C does with the library, what the library does with packets that it must not hand up, and what
- * it cannot see. It compiles as C and as C++.
+ * it cannot see. What the senders do, sealing and being asked for a packet keyed afresh, is in line.c. It compiles as C and as
+ * C++.
  */
-#include "udukemb.h"
+#include "line.h"
 
 #include <stdio.h>
-#include <stdlib.h>
 #include <string.h>
 
-enum { BITS = 128, READINGS = 6, LOST = 2, HELD_BACK = 3, LONGEST_TEXT = 64 };
-enum { SETPOINTS = 6, LOST_SETPOINT = 2, CUT_SETPOINT = 6, PIECE = 8 };
-enum { LONGEST_PACKET = UDUKEMB_PACKET_FRONT + 2 + LONGEST_TEXT };
+enum { CUT_SETPOINT = 6, PIECE = 8, LONGEST_LABEL = 64 };
 
-/* The user, password and challenges of RFC 2759, section 9.2, the user with a domain in front. The password is UTF-16, low octet first. */
-static const uint8_t name[] = { 'N', 'O', 'R', 'T', 'H', '\\', 'U', 's', 'e', 'r' };
+/* The user without the domain, and another password: what the login is also tried with. */
 static const uint8_t user[] = { 'U', 's', 'e', 'r' };
-static const uint8_t password[] = { 'c', 0, 'l', 0, 'i', 0, 'e', 0, 'n', 0, 't', 0, 'P', 0, 'a', 0, 's', 0, 's', 0 };
 static const uint8_t wrong_password[] = { 'c', 0, 'l', 0, 'i', 0, 'e', 0, 'n', 0, 't', 0, 'P', 0, 'a', 0, 's', 0, 'S', 0 };
-static const uint8_t control_room_challenge[UDUKEMB_CHALLENGE] = { 0x5B, 0x5D, 0x7C, 0x7D, 0x7B, 0x3F, 0x2F, 0x3E,
-                                                                   0x3C, 0x2C, 0x60, 0x21, 0x32, 0x26, 0x26, 0x28 };
-static const uint8_t station_challenge[UDUKEMB_CHALLENGE] = { 0x21, 0x40, 0x23, 0x24, 0x25, 0x5E, 0x26, 0x2A,
-                                                              0x28, 0x29, 0x5F, 0x2B, 0x3A, 0x33, 0x7C, 0x7E };
-
-/* What the numbers mean, for people. */
-static const char *meaning(uint8_t answer)
-{
-    static const char *const words[] = { "done",
-                                         "it has not the shape of a packet",
-                                         "there is no room for the result",
-                                         "a length is outside its limits",
-                                         "what is inside is no frame that the link carries",
-                                         "its header lacks a flag",
-                                         "it was opened before",
-                                         "the link record is damaged",
-                                         "no strength is both offered and allowed",
-                                         "a number that is no longer given",
-                                         "it comes late: one that was sealed after it is opened",
-                                         "one before it is missing, so the link waits for one keyed afresh" };
-
-    return answer < sizeof words / sizeof words[0] ? words[answer] : "unknown";
-}
-
-/* Ends the program where a call that must go well is refused. */
-static void must(const char *what, uint8_t answer)
-{
-    if (answer == UDUKEMB_DONE)
-        return;
-    printf("%s: refused with %u, %s\n", what, answer, meaning(answer));
-    exit(EXIT_FAILURE);
-}
-
-/* Prints octets in hexadecimal behind a label. */
-static void show(const char *label, const uint8_t *octets, size_t n)
-{
-    printf("  %-28s", label);
-    for (size_t i = 0; i < n; i++)
-        printf("%02X", octets[i]);
-    printf("\n");
-}
 
 /* Prints a check's yes or no. */
 static void show_check(const char *label, struct udukemb_check check)
@@ -124,8 +79,8 @@ static bool agree(const uint8_t request[UDUKEMB_OPTION])
 }
 
 /* The link of one direction, at both ends, from the start key that each works out. */
-static void make_links(const uint8_t response[UDUKEMB_NT_RESPONSE], bool server_sends, bool stateful,
-                       uint8_t sender[UDUKEMB_LINK_RECORD], uint8_t receiver[UDUKEMB_LINK_RECORD])
+static void make_links(const uint8_t response[UDUKEMB_NT_RESPONSE], bool server_sends, bool stateful, struct line *line,
+                       uint8_t receiver[UDUKEMB_LINK_RECORD])
 {
     uint8_t sent[UDUKEMB_START_KEY_128], received[UDUKEMB_START_KEY_128];
 
@@ -133,37 +88,25 @@ static void make_links(const uint8_t response[UDUKEMB_NT_RESPONSE], bool server_
     make_start_key(!server_sends, false, response, received);
     show(server_sends ? "the control room sends with" : "the station sends with", sent, sizeof sent);
     show(server_sends ? "the station opens with" : "the control room opens with", received, sizeof received);
-    must("the sender's link", udukemb_new_link(BITS, stateful, sent, sizeof sent, sender, UDUKEMB_LINK_RECORD));
+    begin_line(line, stateful, sent);
     must("the receiver's link", udukemb_new_link(BITS, stateful, received, sizeof received, receiver, UDUKEMB_LINK_RECORD));
 }
 
 /* Step 2: both ends make the link that the station sends over. */
-static void make_line(const uint8_t response[UDUKEMB_NT_RESPONSE], uint8_t sender[UDUKEMB_LINK_RECORD],
-                      uint8_t receiver[UDUKEMB_LINK_RECORD])
+static void make_line(const uint8_t response[UDUKEMB_NT_RESPONSE], struct line *line, uint8_t receiver[UDUKEMB_LINK_RECORD])
 {
     static const uint8_t request[UDUKEMB_OPTION] = { 18, 6, 0x01, 0x00, 0x00, 0xE0 };
 
     printf("2. Both ends make the keys of the link\n");
-    make_links(response, false, agree(request), sender, receiver);
+    make_links(response, false, agree(request), line, receiver);
     printf("\n");
-}
-
-/* Seals a text behind a protocol number, and gives the packet's length. */
-static size_t seal_text(uint8_t sender[UDUKEMB_LINK_RECORD], const char *text, uint8_t packet[LONGEST_PACKET])
-{
-    uint8_t plain[2 + LONGEST_TEXT] = { 0x00, 0x21 };
-    size_t n = strlen(text);
-
-    memcpy(plain + 2, text, n);
-    must("a packet", udukemb_seal(sender, UDUKEMB_LINK_RECORD, plain, 2 + n, packet, LONGEST_PACKET));
-    return UDUKEMB_PACKET_FRONT + 2 + n;
 }
 
 /* Says what came of a packet of n octets, but for the line's end. */
 static void say_opened(const char *what, struct udukemb_opened opened, const uint8_t *plain, size_t n)
 {
     if (opened.answer == UDUKEMB_DONE)
-        printf("  %s: \"%.*s\"", what, (int)(n - UDUKEMB_PACKET_FRONT - 2), (const char *)plain + 2);
+        printf("  %s: \"%.*s\"", what, (int)(n - UDUKEMB_PACKET_FRONT - PROTOCOL), (const char *)plain + PROTOCOL);
     else
         printf("  %s: refused with %u, %s", what, opened.answer, meaning(opened.answer));
 }
@@ -180,32 +123,6 @@ static void open_packet(uint8_t receiver[UDUKEMB_LINK_RECORD], const char *what,
     printf("\n");
 }
 
-/* Packet 4 first comes with a bit of its protocol number turned. */
-static void alter_protocol(uint8_t receiver[UDUKEMB_LINK_RECORD], uint8_t *packet, size_t n)
-{
-    packet[UDUKEMB_PACKET_FRONT] ^= 0x40;
-    open_packet(receiver, "packet 4 with a bit of its protocol number turned", packet, n);
-    packet[UDUKEMB_PACKET_FRONT] ^= 0x40;
-}
-
-/* Packet 5 comes again, and then with damage that its header shows. */
-static void repeat_and_damage(uint8_t receiver[UDUKEMB_LINK_RECORD], uint8_t *packet, size_t n)
-{
-    open_packet(receiver, "packet 5 once more", packet, n);
-    packet[2] &= 0x7F;
-    open_packet(receiver, "packet 5 without a flag", packet, n);
-    open_packet(receiver, "the first five octets of it", packet, 5);
-}
-
-/* Packet 6 comes with a bit of its payload turned, in place of what was sealed. */
-static void alter_payload(uint8_t receiver[UDUKEMB_LINK_RECORD], uint8_t *packet, size_t n)
-{
-    packet[n - 6] ^= 0x04;
-    open_packet(receiver, "packet 6 with a bit of its payload turned", packet, n);
-    printf("    3.16 m was sealed. MPPE has no check of its own, so an altered payload opens with 0; the library promises only that\n"
-           "    an unaltered packet opens to what was sealed. A check inside the payload, or TLS around the link, would tell.\n");
-}
-
 /* Says whether both ends hold the same record. */
 static void show_records(const uint8_t sender[UDUKEMB_LINK_RECORD], const uint8_t receiver[UDUKEMB_LINK_RECORD])
 {
@@ -213,51 +130,20 @@ static void show_records(const uint8_t sender[UDUKEMB_LINK_RECORD], const uint8_
            memcmp(sender, receiver, UDUKEMB_LINK_RECORD) == 0 ? "the same" : "another");
 }
 
-/* Step 3: readings are sealed, one is lost, one is held back, and the rest are opened; other packets come in between. */
-static void run_line(uint8_t sender[UDUKEMB_LINK_RECORD], uint8_t receiver[UDUKEMB_LINK_RECORD])
+/* Step 3: readings are sealed, one is lost, one is held back, and what arrives is opened, repeats and damaged packets too. */
+static void run_line(struct line *line, uint8_t receiver[UDUKEMB_LINK_RECORD])
 {
-    uint8_t held[LONGEST_PACKET];
-    size_t held_n = 0;
+    struct arrival arrival;
 
     printf("3. The station sends readings; the line loses number %d, and holds number %d back\n", LOST, HELD_BACK);
-    for (int i = 1; i <= READINGS; i++) {
-        uint8_t packet[LONGEST_PACKET];
-        char text[LONGEST_TEXT], label[32];
-        size_t n;
-
-        snprintf(text, sizeof text, "reading %d, level 3.%02d m", i, 10 + i);
-        n = seal_text(sender, text, packet);
-        if (i == 1)
-            show("packet 1 on the line", packet, n);
-        if (i == HELD_BACK) {
-            memcpy(held, packet, n);
-            held_n = n;
-        }
-        if (i == LOST || i == HELD_BACK)
-            continue;
-        if (i == 4)
-            alter_protocol(receiver, packet, n);
-        snprintf(label, sizeof label, "packet %d", i);
-        if (i == 6)
-            alter_payload(receiver, packet, n);
-        else
-            open_packet(receiver, label, packet, n);
-        if (i == 4)
-            open_packet(receiver, "packet 3, behind packet 4", held, held_n);
-        if (i == 5)
-            repeat_and_damage(receiver, packet, n);
+    while (next_arrival(line, &arrival)) {
+        if (arrival.number == 1)
+            show("packet 1 on the line", arrival.packet, arrival.length);
+        open_packet(receiver, arrival.label, arrival.packet, arrival.length);
     }
-    show_records(sender, receiver);
-}
-
-/* Asks for a packet keyed afresh: the station writes a Reset-Request, and the control room takes it. */
-static void ask(uint8_t sender[UDUKEMB_LINK_RECORD])
-{
-    uint8_t request[UDUKEMB_RESET_REQUEST];
-
-    must("a Reset-Request", udukemb_write_reset(1, request, sizeof request));
-    show("the station asks", request, sizeof request);
-    must("the Reset-Request", udukemb_reset(sender, UDUKEMB_LINK_RECORD, request, sizeof request));
+    printf("    3.16 m was sealed. MPPE has no check of its own, so an altered payload opens with 0; the library promises only that\n"
+           "    an unaltered packet opens to what was sealed. A check inside the payload, or TLS around the link, would tell.\n");
+    show_records(line->sender, receiver);
 }
 
 /* Opens a packet of n octets as the modem hands it over: the octets in front, then pieces of the data, up to where it is cut off. */
@@ -286,28 +172,25 @@ static void open_pieces(uint8_t walk[UDUKEMB_WALK], const char *what, const uint
 static void run_modem(const uint8_t response[UDUKEMB_NT_RESPONSE])
 {
     static const uint8_t request[UDUKEMB_OPTION] = { 18, 6, 0x00, 0x00, 0x00, 0x40 };
-    uint8_t sender[UDUKEMB_LINK_RECORD], walk[UDUKEMB_WALK], packet[LONGEST_PACKET];
+    uint8_t walk[UDUKEMB_WALK];
+    struct line line;
+    struct arrival arrival;
 
     printf("4. The control room sends setpoints over a stateful modem, which loses number %d, and hands the others over in pieces of "
            "%d octets\n",
-           LOST_SETPOINT, PIECE);
-    make_links(response, true, agree(request), sender, walk);
-    for (int i = 1; i <= SETPOINTS; i++) {
-        char text[LONGEST_TEXT], label[32];
-        size_t n;
+           LOST, PIECE);
+    make_links(response, true, agree(request), &line, walk);
+    while (next_arrival(&line, &arrival)) {
+        char label[LONGEST_LABEL];
 
-        snprintf(text, sizeof text, "setpoint %d, valve at %d %%", i, 40 + i);
-        n = seal_text(sender, text, packet);
-        if (i == LOST_SETPOINT)
-            continue;
-        snprintf(label, sizeof label, "packet %d, %s bit A", i, packet[2] & 0x80 ? "with" : "without");
-        if (i == CUT_SETPOINT)
-            open_pieces(walk, "packet 6, cut off in the middle", packet, n, n / 2);
-        open_pieces(walk, label, packet, n, n);
-        if (i == LOST_SETPOINT + 2)
-            ask(sender);
+        snprintf(label, sizeof label, "%s, %s bit A", arrival.label, arrival.packet[HEADER] & BIT_A ? "with" : "without");
+        if (arrival.number == CUT_SETPOINT)
+            open_pieces(walk, "packet 6, cut off in the middle", arrival.packet, arrival.length, arrival.length / 2);
+        open_pieces(walk, label, arrival.packet, arrival.length, arrival.length);
+        if (arrival.number == ASKED_AFTER)
+            ask(&line);
     }
-    show_records(sender, walk);
+    show_records(line.sender, walk);
 }
 
 /* Step 5: what ties the login to the TLS connection it runs in. */
@@ -327,11 +210,12 @@ static void bind_login(const uint8_t response[UDUKEMB_NT_RESPONSE])
 
 int main(void)
 {
-    uint8_t response[UDUKEMB_NT_RESPONSE], sender[UDUKEMB_LINK_RECORD], receiver[UDUKEMB_LINK_RECORD];
+    uint8_t response[UDUKEMB_NT_RESPONSE], receiver[UDUKEMB_LINK_RECORD];
+    struct line line;
 
     login(response);
-    make_line(response, sender, receiver);
-    run_line(sender, receiver);
+    make_line(response, &line, receiver);
+    run_line(&line, receiver);
     run_modem(response);
     bind_login(response);
     return 0;
