@@ -18,6 +18,7 @@ enum { LONGEST_LINE = UDUKEMB_LONGEST_PASSWORD / 2 * 3 };
 /* How many octets the buffer for a file begins with, and how many are shown of a payload that is no text. */
 enum { FIRST_ROOM = 65536, SHOWN = 16 };
 
+/* The status on wrong usage, and what stands for the value of something that is no hexadecimal digit. */
 enum { WRONG_USAGE = 2, NO_DIGIT = 16 };
 
 /* What an MPPE packet begins with, and the bits of its header's first octet that belong to the count. */
@@ -30,6 +31,7 @@ enum { NEXT_MASK = 0xC0, NEXT_MARK = 0x80, NEXT_BITS = 6, LAST_CHARACTER = 0x10F
 /* UTF-16, RFC 2781: the first character that takes two units, what marks the first unit and the second, and how many bits each has. */
 enum { FIRST_OF_TWO = 0x10000, HIGH_UNIT = 0xD800, LOW_UNIT = 0xDC00, LAST_UNIT = 0xDFFF, UNIT_BITS = 10, UNIT_MASK = 0x3FF };
 
+/* How it is used. */
 static const char usage[] =
     "usage:\n"
     "  tape record FILE stateless|stateful\n"
@@ -413,7 +415,7 @@ static void show_step(struct udukemb_replayed step, const uint8_t *plain, size_t
 
 /* Replays a tape from its start on a new link. No single packet tells that the key is wrong, since MPPE has no check of its own; but then
    most packets answer 4, as noise does. */
-static void replay(struct tape *tape, uint8_t bits, bool stateful, const uint8_t key[UDUKEMB_START_KEY_128])
+static void replay(const struct tape *tape, uint8_t bits, bool stateful, const uint8_t key[UDUKEMB_START_KEY_128])
 {
     uint8_t record[UDUKEMB_LINK_RECORD], plain[UDUKEMB_LONGEST_PLAIN];
     struct udukemb_next next;
@@ -421,11 +423,12 @@ static void replay(struct tape *tape, uint8_t bits, bool stateful, const uint8_t
 
     must("the link", udukemb_new_link(bits, stateful, key, key_length(bits), record, sizeof record));
     for (;;) {
-        struct udukemb_replayed step = udukemb_tape_replay(record, sizeof record, tape->octets, tape->length, offset, plain, sizeof plain);
+        struct udukemb_replayed step;
 
         next = udukemb_tape_read(tape->octets, tape->length, offset);
         if (next.start == next.offset)
             break;
+        step = udukemb_tape_replay(record, sizeof record, tape->octets, tape->length, offset, plain, sizeof plain);
         packets++;
         opened += step.answer == UDUKEMB_DONE;
         noise += step.answer == UDUKEMB_PROTOCOL;
@@ -438,7 +441,6 @@ static void replay(struct tape *tape, uint8_t bits, bool stateful, const uint8_t
     if (packets > 0 && (opened == 0 || opened < noise))
         stop("%zu of %zu packets opened, and %zu held noise: the key, the strength, the mode or the direction is not that of %s", opened,
              packets, noise, tape->file);
-    free(tape->octets);
 }
 
 /* Replays a tape with a start key. */
@@ -450,6 +452,7 @@ static void replay_with_key(const char *file, const char *strength, const char *
 
     read_key(bits, key);
     replay(&tape, bits, stateful, key);
+    free(tape.octets);
 }
 
 /* Replays a tape with the login that its link was made after; the words are the end, the name, and both challenges. */
@@ -469,6 +472,7 @@ static void replay_with_login(const char *file, const char *strength, const char
     login.password_length = read_password(utf16);
     receiving_key(&login, bits, server, key);
     replay(&tape, bits, stateful, key);
+    free(tape.octets);
 }
 
 int main(int argc, char **argv)
