@@ -15,6 +15,9 @@ enum { SHA1_OCTETS = 20, BIT_A = 0x80, BIT_D = 0x10, LOWEST_PROTOCOL = 0x21, HIG
 enum { AT_START = 1, AT_SESSION = 17, AT_COUNT = 33, AT_MODE = 35, AT_MARK = 36, AT_STATE = 37 };
 enum { AT_LIVE = RECORD_OCTETS, AT_HEADER = 296, AT_NEXT = 298, AT_DRAWN = 314, AT_TOTAL = 572, AT_FED = 574, AT_FIRST = 576 };
 
+/* A tape's first octet, and the most groups that a carried length has. */
+enum { FIRST_OCTET = 1, MOST_GROUPS = 2 };
+
 /* Ends the program where OpenSSL does not do what it is asked. */
 static void need(bool held)
 {
@@ -1049,6 +1052,84 @@ int oracle_reset(buffer record, part request)
     if (is_stateful(record.at))
         record.at[AT_MARK] = 1;
     return DONE;
+}
+
+/* "The tape is octet 1, then records" (02, M-109). */
+int oracle_tape_begin(buffer out)
+{
+    if (out.n == 0)
+        return ROOM;
+    out.at[0] = FIRST_OCTET;
+    return DONE;
+}
+
+/* "Length as groups of seven bits, lowest first, top bit set when more follows, shortest form only": those of a length that is carried, and
+   how many they are. */
+static size_t groups_of(size_t length, octet groups[MOST_GROUPS])
+{
+    groups[0] = (octet)(length % 128);
+    groups[1] = (octet)(length / 128);
+    if (groups[1] == 0)
+        return 1;
+    groups[0] |= 0x80;
+    return 2;
+}
+
+/* Write: "groups ..; then the packet. Lengths 6 to 1,502"; "writing another length is 1, before 2". */
+tape_written oracle_tape_write(part packet, buffer out)
+{
+    tape_written refused = {SHAPE, 0}, made = {DONE, 0};
+    octet groups[MOST_GROUPS];
+
+    if (packet.n < SHORTEST_PACKET || packet.n > LONGEST_PACKET)
+        return refused;
+    made.length = groups_of(packet.n, groups);
+    refused.number = ROOM;
+    if (out.n < made.length + packet.n)
+        return refused;
+    put(out.at, of(groups, made.length));
+    put(out.at + made.length, packet);
+    made.length += packet.n;
+    return made;
+}
+
+/* Read: "a missing or bad first octet is 1, then an offset of 0 or past the end 3, both with offset 0"; "at the end 0, no packet and the
+   same offset". The packet is looked for by writing: its length is the one whose groups stand at the offset and have as many octets behind
+   them as it says. Where it is none of those that are carried, "other lengths, a longer form, a third group or a cut record are 1, with the
+   same offset". */
+tape_next oracle_tape_read(part tape, size_t offset)
+{
+    tape_next result = {SHAPE, 0, 0};
+    octet groups[MOST_GROUPS];
+
+    if (tape.n == 0 || tape.at[0] != FIRST_OCTET)
+        return result;
+    result.number = SIZE;
+    if (offset == 0 || offset > tape.n)
+        return result;
+    result.number = offset == tape.n ? DONE : SHAPE;
+    result.start = result.offset = offset;
+    for (size_t length = SHORTEST_PACKET; length <= LONGEST_PACKET; length++) {
+        size_t n = groups_of(length, groups);
+
+        if (tape.n - offset >= n + length && memcmp(tape.at + offset, groups, n) == 0)
+            return (tape_next){DONE, offset + n, offset + n + length};
+    }
+    return result;
+}
+
+/* "A replay step answers 7, or what the read answers if that gives no packet, or else what open answers, then always with the offset after
+   the packet." A 7 has the offset 0. */
+tape_replayed oracle_tape_replay(buffer record, part tape, size_t offset, buffer out)
+{
+    tape_next next = oracle_tape_read(tape, offset);
+    opened result = {next.number, 0};
+
+    if (!well_formed(record))
+        return (tape_replayed){RECORD, 0, 0};
+    if (next.start < next.offset)
+        result = oracle_open(record, of(tape.at + next.start, next.offset - next.start), out);
+    return (tape_replayed){result.number, result.changes, next.offset};
 }
 
 /* The client's send start key then its receive start key; the server puts receive first (004). */

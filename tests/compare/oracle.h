@@ -49,6 +49,8 @@ enum {
     SHORTEST_PLAIN = 2,
     LONGEST_PLAIN = 1498,
     FRONT = 4,
+    SHORTEST_PACKET = 6,
+    LONGEST_PACKET = 1502,
     LEAST_CHALLENGE = 21,
     LEAST_RESPONSE = 54,
     RC4_STATE = 258 /* the box and both indices */
@@ -131,6 +133,29 @@ unsigned oracle_distance(const octet *record, const octet header[2]);
 opened oracle_begin(buffer walk, part front, size_t total, size_t room);
 int oracle_feed(buffer walk, part piece, buffer out);
 opened oracle_end(buffer walk);
+
+/* The tape. A write gives the octets written; a read the packet as the part of the tape from `start` up to `offset`, none where they are
+   equal; a step of a replay what open gives, and the offset after the packet. */
+typedef struct {
+    int number;
+    size_t length;
+} tape_written;
+
+typedef struct {
+    int number;
+    size_t start, offset;
+} tape_next;
+
+typedef struct {
+    int number;
+    unsigned changes;
+    size_t offset;
+} tape_replayed;
+
+int oracle_tape_begin(buffer out);
+tape_written oracle_tape_write(part packet, buffer out);
+tape_next oracle_tape_read(part tape, size_t offset);
+tape_replayed oracle_tape_replay(buffer record, part tape, size_t offset, buffer out);
 
 /* The binding key. */
 int oracle_base_key(bool server, part send, part receive, octet out[BASE_KEY]);
