@@ -1,11 +1,14 @@
 /* The large comparison of the calls that a C host makes: cases from a seed, answered by the oracle and by the library through
-   include/udukemb.h; then whole runs of a link in each mode (runs.h), and packets in any order (order.h). Arguments: the seed, and
-   how many cases for each call. */
+   include/udukemb.h; then whole runs of a link in each mode (runs.h), packets in any order (order.h), tapes (tapes.h)
+   and a long one (long_tape.h). Arguments: the seed, and how many cases for each call. */
 #include "guard.h"
 #include "host.h"
 #include "links.h"
+#include "long_tape.h"
 #include "order.h"
 #include "runs.h"
+#include "tape_cases.h"
+#include "tapes.h"
 #include "udukemb.h"
 
 #include <stdlib.h>
@@ -482,6 +485,112 @@ static void give_write_reset(const test *t, const loan *l, answer *a)
     a->number = udukemb_write_reset((uint8_t)t->x, OUT(0));
 }
 
+/* A tape begun: its first octet goes into the first lent buffer. */
+static void make_tape_begin(test *t)
+{
+    make_room(&t->lent[0], 1);
+}
+
+/* The first octet. */
+static void expect_tape_begin(const test *t, answer *a)
+{
+    (void)t;
+    a->number = oracle_tape_begin(lent(a, 0));
+}
+
+/* The same by the library. */
+static void give_tape_begin(const test *t, const loan *l, answer *a)
+{
+    a->number = udukemb_tape_begin(OUT(0));
+}
+
+/* Write: the packet is the input, and its record goes into the first lent buffer. */
+static void make_tape_write(test *t)
+{
+    make_written(&t->in[0], &t->lent[0]);
+}
+
+/* The record, and its length. */
+static void expect_tape_write(const test *t, answer *a)
+{
+    tape_written w = oracle_tape_write(in(t, 0), lent(a, 0));
+
+    a->number = w.number;
+    size_field(a, w.length);
+}
+
+/* The same by the library. */
+static void give_tape_write(const test *t, const loan *l, answer *a)
+{
+    struct udukemb_written w = udukemb_tape_write(IN(0), OUT(0));
+
+    a->number = w.answer;
+    size_field(a, w.length);
+}
+
+/* Read: the tape is the input. */
+static void make_tape_read(test *t)
+{
+    set_offset(t, make_tape(&t->in[0]));
+}
+
+/* Where the packet begins, and the offset after it. */
+static void expect_tape_read(const test *t, answer *a)
+{
+    tape_next n = oracle_tape_read(in(t, 0), offset_of(t));
+
+    a->number = n.number;
+    size_field(a, n.start);
+    size_field(a, n.offset);
+}
+
+/* The same by the library. */
+static void give_tape_read(const test *t, const loan *l, answer *a)
+{
+    struct udukemb_next n = udukemb_tape_read(IN(0), offset_of(t));
+
+    a->number = n.answer;
+    size_field(a, n.start);
+    size_field(a, n.offset);
+}
+
+/* A step of a replay: the tape is the input, the record the first lent buffer, and the plain packet goes into the second. The tape is any of
+   those that are read, or has a packet for the record. */
+static void make_tape_replay(test *t)
+{
+    static octets packet;
+    tape_next next;
+
+    make_right_record(&t->lent[0]);
+    do
+        make_arriving(&t->lent[0], &packet);
+    while (packet.n < SHORTEST_PACKET || packet.n > LONGEST_PACKET);
+    set_offset(t, one_in(2) ? make_tape(&t->in[0]) : make_recorded(&t->in[0], &packet));
+    next = oracle_tape_read(in(t, 0), offset_of(t));
+    make_room(&t->lent[1], next.start < next.offset ? next.offset - next.start - FRONT : below(40));
+    if (one_in(8))
+        damage_record(&t->lent[0]);
+}
+
+/* The plain packet, the changes, the next record and the offset. */
+static void expect_tape_replay(const test *t, answer *a)
+{
+    tape_replayed r = oracle_tape_replay(lent(a, 0), in(t, 0), offset_of(t), lent(a, 1));
+
+    gave_opened(a, r.number, r.changes);
+    size_field(a, r.offset);
+    count_replayed(t, r.number);
+}
+
+/* The same by the library. */
+static void give_tape_replay(const test *t, const loan *l, answer *a)
+{
+    struct udukemb_replayed r = udukemb_tape_replay(OUT(0), IN(0), offset_of(t), OUT(1));
+
+    gave_opened(a, r.answer, r.changes);
+    size_field(a, r.offset);
+}
+
 static const call calls[CALLS] = {
     {"udukemb_check_response", CHECK_RESPONSE, make_check_response, expect_check_response},
     {"udukemb_nt_response", RESPONSE, make_login, expect_nt_response},
@@ -499,6 +608,10 @@ static const call calls[CALLS] = {
     {"udukemb_end", END, make_walk_end, expect_walk_end},
     {"udukemb_reset", RESET, make_taken, expect_taken},
     {"udukemb_write_reset", WRITE_RESET, make_write_reset, expect_write_reset},
+    {"udukemb_tape_begin", TAPE_BEGIN, make_tape_begin, expect_tape_begin},
+    {"udukemb_tape_write", TAPE_WRITE, make_tape_write, expect_tape_write},
+    {"udukemb_tape_read", TAPE_READ, make_tape_read, expect_tape_read},
+    {"udukemb_tape_replay", TAPE_REPLAY, make_tape_replay, expect_tape_replay},
 };
 
 const call seal_in_run = {"udukemb_seal in a run", SEAL, make_seal, expect_seal};
@@ -508,6 +621,10 @@ const call feed_in_run = {"udukemb_feed in a run", FEED, make_walk_feed, expect_
 const call end_in_run = {"udukemb_end in a run", END, make_walk_end, expect_walk_end};
 const call reset_in_run = {"udukemb_reset in a run", RESET, make_taken, expect_taken};
 const call write_reset_in_run = {"udukemb_write_reset in a run", WRITE_RESET, make_write_reset, expect_write_reset};
+const call tape_begin_in_run = {"udukemb_tape_begin in a run", TAPE_BEGIN, make_tape_begin, expect_tape_begin};
+const call tape_write_in_run = {"udukemb_tape_write in a run", TAPE_WRITE, make_tape_write, expect_tape_write};
+const call tape_read_in_run = {"udukemb_tape_read in a run", TAPE_READ, make_tape_read, expect_tape_read};
+const call tape_replay_in_run = {"udukemb_tape_replay in a run", TAPE_REPLAY, make_tape_replay, expect_tape_replay};
 
 /* How often each call gave each number, in cases and in runs. */
 static unsigned long came[CALLS][UINT8_MAX + 1];
@@ -532,6 +649,10 @@ void give(const test *t, answer *a)
         [END] = give_walk_end,
         [RESET] = give_taken,
         [WRITE_RESET] = give_write_reset,
+        [TAPE_BEGIN] = give_tape_begin,
+        [TAPE_WRITE] = give_tape_write,
+        [TAPE_READ] = give_tape_read,
+        [TAPE_REPLAY] = give_tape_replay,
     };
     loan l = lend_guarded(t);
 
@@ -540,7 +661,7 @@ void give(const test *t, answer *a)
     came[t->call][a->number]++;
 }
 
-/* Prints how often the calls for a packet in pieces gave each number that they can give; ends the program where one never came. */
+/* Prints how often the calls for a packet in pieces and for a tape gave each number that they can give; ends the program where one never came. */
 static void every_number_came(void)
 {
     static const struct {
@@ -550,6 +671,10 @@ static void every_number_came(void)
         {"udukemb_begin", BEGIN, {RECORD, SHAPE, FLAGS, REPEAT, LATE, WAITING, ROOM, DONE}},
         {"udukemb_feed", FEED, {RECORD, ROOM, SIZE, PROTOCOL, DONE}},
         {"udukemb_end", END, {RECORD, SHAPE, DONE}},
+        {"udukemb_tape_begin", TAPE_BEGIN, {ROOM, DONE}},
+        {"udukemb_tape_write", TAPE_WRITE, {SHAPE, ROOM, DONE}},
+        {"udukemb_tape_read", TAPE_READ, {SHAPE, SIZE, DONE}},
+        {"udukemb_tape_replay", TAPE_REPLAY, {RECORD, SHAPE, SIZE, FLAGS, REPEAT, LATE, WAITING, ROOM, PROTOCOL, DONE}},
     };
 
     for (size_t k = 0; k < sizeof can / sizeof can[0]; k++) {
@@ -567,7 +692,7 @@ static void every_number_came(void)
     }
 }
 
-/* Compares every call, then runs of a link in each mode, then packets in any order. */
+/* Compares every call, then runs of a link in each mode, packets in any order, and tapes. */
 int main(int count, char **words)
 {
     unsigned long seed, cases, total;
@@ -580,7 +705,10 @@ int main(int count, char **words)
     total += compare_runs(seed, cases, false);
     total += compare_runs(seed, cases, true);
     total += compare_order(seed);
+    total += compare_tapes(seed);
+    compare_long_tape(seed, cases);
     every_number_came();
+    every_tape_came(cases);
     printf("%lu calls of the C host, all equal\n", total);
     return 0;
 }

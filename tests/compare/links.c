@@ -329,6 +329,13 @@ void take(octets *to, part from, size_t n)
     memcpy(to->at, from.at, to->n);
 }
 
+/* Octets behind others. */
+void append(octets *to, part p)
+{
+    memcpy(to->at + to->n, p.at, p.n);
+    to->n += p.n;
+}
+
 /* A walk begun with a packet. */
 static int begin_walk(octets *walk, const octets *packet)
 {

@@ -44,6 +44,9 @@ part front_of(const octets *packet);
 part data_of(const octets *packet, size_t from);
 void take(octets *to, part from, size_t n);
 
+/* Octets behind others. */
+void append(octets *to, part p);
+
 /* A walk before it is begun with a packet; one that is under way, and the data left for it; one damage to its record or length, and one to
    any field. */
 void make_walk(octets *walk, const octets *record, const octets *packet);

@@ -203,6 +203,25 @@ octet *field(answer *a, size_t n)
     return at;
 }
 
+/* The highest octet first. */
+void size_field(answer *a, size_t size)
+{
+    octet *at = field(a, SIZE_OCTETS);
+
+    for (int k = SIZE_OCTETS - 1; k >= 0; k--, size >>= 8)
+        at[k] = (octet)size;
+}
+
+/* Read back. */
+size_t size_at(const octet *at)
+{
+    size_t size = 0;
+
+    for (int k = 0; k < SIZE_OCTETS; k++)
+        size = size << 8 | at[k];
+    return size;
+}
+
 /* Prints octets behind a label. */
 static void print(const char *label, int k, const octets *o)
 {

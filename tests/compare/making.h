@@ -6,7 +6,7 @@
 
 #include <stdio.h>
 
-enum { INPUTS = 6, LENT = 2, MOST = 65536, NUMBERS = WAITING + 1 };
+enum { INPUTS = 6, LENT = 2, MOST = 65536, NUMBERS = WAITING + 1, SIZE_OCTETS = 8 };
 
 /* Octets of any length up to MOST. */
 typedef struct {
@@ -87,6 +87,10 @@ unsigned strength_bits(unsigned k);
 part in(const test *t, int k);
 buffer lent(answer *a, int k);
 octet *field(answer *a, size_t n);
+
+/* A length or an offset as the next eight octets of its fields, and as it stands there. */
+void size_field(answer *a, size_t size);
+size_t size_at(const octet *at);
 
 /* The seed and the number of cases for each call, from a program's arguments. */
 void read_arguments(int count, char **words, unsigned long *seed, unsigned long *cases);

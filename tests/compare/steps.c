@@ -27,7 +27,7 @@ void start_steps(unsigned long seed, unsigned long stream)
     steps = (struct steps){.seed = seed};
 }
 
-/* Ends the program where a run does not go as demand 3 and M-103 to M-105 say. */
+/* Ends the program where a run does not go as demand 3, M-103 to M-105 and M-109 say. */
 void demand(bool held, const char *what)
 {
     if (held)
@@ -37,7 +37,7 @@ void demand(bool held, const char *what)
 }
 
 /* One call of a run, compared; its record, or what else is lent to it first, is handed back, and so is the buffer. */
-static void step_into(const call *c, octets *record, const octets *input, octets *out)
+void step_into(const call *c, octets *record, const octets *input, octets *out)
 {
     static answer expected;
 

@@ -23,6 +23,9 @@ void demand(bool held, const char *what);
 /* One call, with a buffer of its own; its record, or what else is lent to it first, is handed back. */
 void step(const call *c, octets *record, const octets *input, size_t room);
 
+/* The same with a buffer that is handed back too. */
+void step_into(const call *c, octets *record, const octets *input, octets *out);
+
 /* The key changes that the last call reports; none where it is a feed. */
 unsigned reported(void);
 
