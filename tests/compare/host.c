@@ -554,8 +554,8 @@ static void give_tape_read(const test *t, const loan *l, answer *a)
     size_field(a, n.offset);
 }
 
-/* A step of a replay: the tape is the input, the record the first lent buffer, and the plain packet goes into the second. The tape is any of
-   those that are read, or has a packet for the record. */
+/* A step of a replay: the tape is the input, the record the first lent buffer, and the plain packet goes into the second. The tape is
+   any of those that are read, or has a packet for the record. */
 static void make_tape_replay(test *t)
 {
     static octets packet;
@@ -661,7 +661,8 @@ void give(const test *t, answer *a)
     came[t->call][a->number]++;
 }
 
-/* Prints how often the calls for a packet in pieces and for a tape gave each number that they can give; ends the program where one never came. */
+/* Prints how often the calls for a packet in pieces and for a tape gave each number that they can give; ends the program where one
+   never came. */
 static void every_number_came(void)
 {
     static const struct {

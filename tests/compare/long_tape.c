@@ -13,8 +13,8 @@
 /* Packets for each case asked for, and at most; how many a few are; the most groups in front of a packet. */
 enum { FOR_EACH = 100, MOST_PACKETS = 100000, FEW = 5, GROUPS = 2 };
 
-/* The tape, its octets and how many they are; its packets, one behind the other, and at the same places what was sealed; how many packets,
-   how long each is, and how many key changes it brings; and the record that both ends of the link begin with. */
+/* The tape, its octets and how many they are; its packets, one behind the other, and at the same places what was sealed; how many
+   packets, how long each is, and how many key changes it brings; and the record that both ends of the link begin with. */
 static struct {
     octet *at, *packets, *plains;
     size_t n, count;
@@ -42,10 +42,10 @@ static double now(void)
     return (double)t.tv_sec + 1e-9 * (double)t.tv_nsec;
 }
 
-/* Packets lost before the next arrival: mostly none, now and then a few, and seldom as many as may be. */
-static unsigned make_lost(void)
+/* Packets lost before arrival k: as many as may be before the first, and seldom before another; now and then a few, and mostly none. */
+static unsigned make_lost(size_t k)
 {
-    return one_in(20000) ? FARTHEST - 1 : one_in(50) ? 1 + (unsigned)below(FEW) : 0;
+    return k == 0 || one_in(20000) ? FARTHEST - 1 : one_in(50) ? 1 + (unsigned)below(FEW) : 0;
 }
 
 /* Seals a packet with the library; some plain packets are refused. */
@@ -65,7 +65,7 @@ static void seal_all(void)
     make_begin(&reel.begun, 128, false);
     memcpy(sender, reel.begun.at, RECORD_OCTETS);
     for (size_t k = 0, at = 0; k < reel.count; at += reel.each[k++].n) {
-        reel.each[k].changes = (uint16_t)(make_lost() + 1);
+        reel.each[k].changes = (uint16_t)(make_lost(k) + 1);
         for (unsigned left = reel.each[k].changes; left > 0; left--)
             seal_one(sender, &plain, reel.packets + at);
         memcpy(reel.plains + at, plain.at, plain.n);
@@ -174,7 +174,8 @@ static void compare_reel(size_t room)
     replaying = replay_all(replayed);
     opening = open_all(fed);
     demand(memcmp(replayed, fed, RECORD_OCTETS) == 0, "a replay of a long tape leaves another record than its opens");
-    printf("tape of %zu packets, %zu octets: written in %.3f s, read back in %.3f s, replayed in %.3f s; a plain loop over open took %.3f s\n",
+    printf("tape of %zu packets, %zu octets: written in %.3f s, read back in %.3f s, replayed in %.3f s; "
+           "a plain loop over open took %.3f s\n",
            reel.count, reel.n, writing, reading, replaying, opening);
 }
 

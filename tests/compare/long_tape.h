@@ -1,4 +1,5 @@
-/* A long tape (M-109): written, read back and replayed, with the time of each beside that of a plain loop over open on the same packets. */
+/* A long tape (M-109): written, read back and replayed, with the time of each beside that of a plain loop over open on the same
+   packets. */
 #ifndef LONG_TAPE_H
 #define LONG_TAPE_H
 

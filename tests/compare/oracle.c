@@ -1063,8 +1063,8 @@ int oracle_tape_begin(buffer out)
     return DONE;
 }
 
-/* "Length as groups of seven bits, lowest first, top bit set when more follows, shortest form only": those of a length that is carried, and
-   how many they are. */
+/* "Length as groups of seven bits, lowest first, top bit set when more follows, shortest form only": those of a length that is carried,
+   and how many they are. */
 static size_t groups_of(size_t length, octet groups[MOST_GROUPS])
 {
     groups[0] = (octet)(length % 128);
@@ -1093,9 +1093,9 @@ tape_written oracle_tape_write(part packet, buffer out)
     return made;
 }
 
-/* Read: "a missing or bad first octet is 1, then an offset of 0 or past the end 3, both with offset 0"; "at the end 0, no packet and the
-   same offset". The packet is looked for by writing: its length is the one whose groups stand at the offset and have as many octets behind
-   them as it says. Where it is none of those that are carried, "other lengths, a longer form, a third group or a cut record are 1, with the
+/* Read: "a missing or bad first octet is 1, then an offset of 0 or past the end 3, both with offset 0"; "at the end 0, no packet and
+   the same offset". The packet is looked for by its groups, those of every length that is carried: they stand at the offset, and have as
+   many octets behind them as they say. Where there is none, "other lengths, a longer form, a third group or a cut record are 1, with the
    same offset". */
 tape_next oracle_tape_read(part tape, size_t offset)
 {
@@ -1118,8 +1118,8 @@ tape_next oracle_tape_read(part tape, size_t offset)
     return result;
 }
 
-/* "A replay step answers 7, or what the read answers if that gives no packet, or else what open answers, then always with the offset after
-   the packet." A 7 has the offset 0. */
+/* "A replay step answers 7, or what the read answers if that gives no packet, or else what open answers, then always with the offset
+   after the packet"; a 7 has the offset 0. */
 tape_replayed oracle_tape_replay(buffer record, part tape, size_t offset, buffer out)
 {
     tape_next next = oracle_tape_read(tape, offset);

@@ -8,11 +8,11 @@
 /* With so many cases for each call, each kind's turn comes. */
 enum { ENOUGH = 100 };
 
-/* What there is at the offset of a read. Of the cut ones and behind, nothing stands behind the record. */
+/* What there is at the offset of a read. The tapes of the last four, from CUT_GROUPS on, end with the record. */
 enum {
-    NO_OCTET, OTHER_FIRST, OFFSET_0, PAST_BY_ONE, PAST_FAR, PAST_MOST, AT_END, END_OF_NONE, TOO_SHORT, TOO_LONG_BY_ONE, TOO_LONG, LONGER_FORM,
-    LONGER_FORMS, THIRD_GROUP, LENGTH_6, LENGTH_127, LENGTH_128, LENGTH_1502, ONE_GROUP, TWO_GROUPS, NOISE, CUT_GROUPS, CUT_BY_ONE, CUT_PACKET,
-    WITHIN, KINDS
+    NO_OCTET, OTHER_FIRST, OFFSET_0, PAST_BY_ONE, PAST_FAR, PAST_MOST, AT_END, END_OF_NONE, TOO_SHORT, TOO_LONG_BY_ONE, TOO_LONG,
+    LONGER_FORM, LONGER_FORMS, THIRD_GROUP, LENGTH_6, LENGTH_127, LENGTH_128, LENGTH_1502, ONE_GROUP, TWO_GROUPS, NOISE, CUT_GROUPS,
+    CUT_BY_ONE, CUT_PACKET, WITHIN, KINDS
 };
 
 /* Where the offset goes: to 0, nowhere, behind a packet, or to any of these. */
@@ -27,38 +27,38 @@ static const struct {
     [OTHER_FIRST] = {"another first octet", SHAPE, TO_0},
     [OFFSET_0] = {"offset 0", SIZE, TO_0},
     [PAST_BY_ONE] = {"past the end by one", SIZE, TO_0},
-    [PAST_FAR] = {"far past it", SIZE, TO_0},
+    [PAST_FAR] = {"far past the end", SIZE, TO_0},
     [PAST_MOST] = {"the greatest offset", SIZE, TO_0},
     [AT_END] = {"at the end", DONE, STAYS},
-    [END_OF_NONE] = {"of no packets", DONE, STAYS},
+    [END_OF_NONE] = {"at the end of no packets", DONE, STAYS},
     [TOO_SHORT] = {"a length of 0 to 5", SHAPE, STAYS},
-    [TOO_LONG_BY_ONE] = {"of 1,503", SHAPE, STAYS},
-    [TOO_LONG] = {"above it", SHAPE, STAYS},
+    [TOO_LONG_BY_ONE] = {"a length of 1,503", SHAPE, STAYS},
+    [TOO_LONG] = {"a length above it", SHAPE, STAYS},
     [LONGER_FORM] = {"a longer form in two groups", SHAPE, STAYS},
-    [LONGER_FORMS] = {"in more", SHAPE, STAYS},
+    [LONGER_FORMS] = {"a longer form in more", SHAPE, STAYS},
     [THIRD_GROUP] = {"a third group", SHAPE, STAYS},
-    [LENGTH_6] = {"packets of 6", DONE, BEHIND},
-    [LENGTH_127] = {"of 127", DONE, BEHIND},
-    [LENGTH_128] = {"of 128", DONE, BEHIND},
-    [LENGTH_1502] = {"of 1,502", DONE, BEHIND},
-    [ONE_GROUP] = {"of one group", DONE, BEHIND},
-    [TWO_GROUPS] = {"of two", DONE, BEHIND},
+    [LENGTH_6] = {"a packet of 6", DONE, BEHIND},
+    [LENGTH_127] = {"a packet of 127", DONE, BEHIND},
+    [LENGTH_128] = {"a packet of 128", DONE, BEHIND},
+    [LENGTH_1502] = {"a packet of 1,502", DONE, BEHIND},
+    [ONE_GROUP] = {"one group", DONE, BEHIND},
+    [TWO_GROUPS] = {"two groups", DONE, BEHIND},
     [NOISE] = {"any octets", DONE, ANYWHERE},
     [CUT_GROUPS] = {"cut in the groups", SHAPE, STAYS},
-    [CUT_BY_ONE] = {"by an octet", SHAPE, STAYS},
-    [CUT_PACKET] = {"by more", SHAPE, STAYS},
+    [CUT_BY_ONE] = {"cut by an octet", SHAPE, STAYS},
+    [CUT_PACKET] = {"cut by more", SHAPE, STAYS},
     [WITHIN] = {"within a record", DONE, ANYWHERE},
 };
 
-/* How long a packet to be written is: at a limit, beside one, or another. How much room its record has: none, one octet too little, what it
-   needs, or more. */
+/* How long a packet to be written is: at a limit, beside one, or another. How much room its record has: none, one octet too little,
+   what it needs, or more. */
 enum { LIMITS = 7, LENGTHS = LIMITS + 1, NONE = 0, ONE_LESS, EXACT, ROOMS = 4 };
 
 /* What a read gives, by which refused records are counted; strengths, and modes. */
 enum { GIVES_SHAPE, GIVES_SIZE, GIVES_END, GIVES_PACKET, READS, STRENGTHS = 3, MODES = 2 };
 
-/* How often each came: reads by their kind; writes by length and room; steps of a replay with an ill-formed record by what the read gives;
-   and of those with a packet, the numbers by mode and strength. */
+/* How often each came: reads by their kind; writes by length and room; steps of a replay with an ill-formed record by what the read
+   gives; and of those with a packet, the numbers by mode and strength. */
 static struct {
     unsigned long reads[KINDS], writes[LENGTHS][ROOMS], ill_formed[READS], packets[MODES][STRENGTHS][NUMBERS];
 } came;
@@ -269,16 +269,13 @@ static size_t kind_offset(const octets *tape, int kind, size_t place)
 /* Whether a read at an offset is what the paper names for a kind. */
 static bool is_named(int kind, size_t offset, tape_next next)
 {
-    switch (kinds[kind].goes) {
-    case TO_0:
-        return next.number == kinds[kind].number && next.start == 0 && next.offset == 0;
-    case STAYS:
-        return next.number == kinds[kind].number && next.start == offset && next.offset == offset;
-    case BEHIND:
-        return next.number == kinds[kind].number && next.start > offset && next.offset > next.start;
-    default:
+    size_t stays = kinds[kind].goes == TO_0 ? 0 : offset;
+
+    if (kinds[kind].goes == ANYWHERE)
         return true;
-    }
+    if (kinds[kind].goes == BEHIND)
+        return next.number == kinds[kind].number && offset < next.start && next.start < next.offset;
+    return next.number == kinds[kind].number && next.start == stays && next.offset == stays;
 }
 
 /* Some records, that of the kind, and the kind's damage. */

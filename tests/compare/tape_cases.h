@@ -11,11 +11,12 @@ size_t offset_of(const test *t);
 /* A length that a tape carries, often at a limit. */
 size_t make_length(void);
 
-/* A packet to be written, and the room for its record: lengths at the limits, beside them and others, with each kind of room in turn. */
+/* A packet to be written, and the room for its record: lengths at the limits, beside them and others, each with every kind of room in
+   turn. */
 void make_written(octets *packet, octets *room);
 
-/* A tape, and the offset that it is read at: each kind in turn. Ends the program where the oracle's read does not give what the paper names
-   for it. */
+/* A tape, and the offset that it is read at: each kind in turn. Ends the program where the oracle's read does not give what the paper
+   names for it. */
 size_t make_tape(octets *tape);
 
 /* A tape with a packet among others; gives the offset of its record. */

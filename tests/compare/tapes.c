@@ -8,8 +8,8 @@
 
 #include <string.h>
 
-/* Lists written and read back; packets that a tape has at most; octets changed of each tape; tapes replayed in each mode at each strength;
-   and how many a few are. */
+/* Lists written and read back; packets that a tape has at most; octets changed of each tape; tapes replayed in each mode at each
+   strength; and how many a few are. */
 enum { LISTS = 60, MOST_PACKETS = 40, CHANGES = 60, REPLAYS = 25, FEW = 5 };
 
 /* A list of packets, one behind the other; where each ends there, and where its record begins on the tape; and the tape. */
@@ -112,8 +112,8 @@ static bool is_packet(size_t k, part p)
     return k < list.count && p.n == packet_of(k).n && memcmp(p.at, packet_of(k).at, p.n) == 0;
 }
 
-/* Reads a tape on to its end, or to a read that is refused. Whether it reads back to the list: each packet as a part of the tape, and then 0
-   at the end. */
+/* Reads a tape on to its end, or to a read that is refused. Whether it reads back to the list: each packet as a part of the tape, and
+   then 0 at the end. */
 static bool reads_back(const octets *tape)
 {
     tape_next next = read_at(tape, 1);
@@ -125,17 +125,26 @@ static bool reads_back(const octets *tape)
     return all && k == list.count && next.number == DONE && next.offset == tape->n;
 }
 
-/* "Each list's tape, and no other, reads back to it": not with one octet changed, any of a short tape, or any or the first of a record. */
+/* Another octet: in one bit, any, or 0. */
+static octet make_other(octet was)
+{
+    octet other = (octet)(one_in(2) ? was ^ 1u << below(8) : one_in(2) ? below(256) : 0);
+
+    return other == was ? was ^ 0x80 : other;
+}
+
+/* "Each list's tape, and no other, reads back to it": not with one octet changed, any of a short tape, or any or one of the first two
+   of a record. */
 static void change_octets(void)
 {
     static octets other;
     size_t n = list.tape.n < CHANGES ? list.tape.n : CHANGES;
 
     for (size_t k = 0; k < n; k++) {
-        size_t at = n < CHANGES ? k : one_in(2) ? list.records[below(list.count)] : below(list.tape.n);
+        size_t at = n < CHANGES ? k : one_in(2) ? list.records[below(list.count)] + below(2) : below(list.tape.n);
 
         copy(&other, &list.tape);
-        other.at[at] ^= (octet)(one_in(2) ? 1u << below(8) : 1 + below(255));
+        other.at[at] = make_other(other.at[at]);
         demand(!reads_back(&other), "a changed tape reads back to the same packets");
         changed++;
     }
@@ -219,7 +228,17 @@ static void damage_packet(const octets *sender, octets *packet)
     }
 }
 
-/* What a line brings of a new link: packets in turn, some lost, repeated, late or damaged. */
+/* The record that both ends begin with: a new link's, or one made by hand. */
+static void make_start(octets *start, unsigned bits, bool stateful)
+{
+    make_begin(start, bits, stateful);
+    if (one_in(2))
+        do
+            make_right_record(start);
+        while (start->at[0] != bits || start->at[AT_MODE] != stateful);
+}
+
+/* What a line brings: packets in turn, some lost, repeated, late or damaged. */
 static void make_arrivals(octets *sender)
 {
     static octets packet, held;
@@ -286,8 +305,8 @@ static void replay_nothing(octets *record, octets *room)
     demand(memcmp(same_room.at, room->at, room->n) == 0, "a step without a packet writes into the buffer");
 }
 
-/* A tape replayed from 1 to its end: each step is the open of its packet, with the same record and into the same room, which is too small
-   now and then. */
+/* A tape replayed from 1 to its end: "steps from 1 to the end equal feeding the packets in turn into the same room". Now and then the
+   room is too small. */
 static void replay_list(const octets *start)
 {
     static octets record, fed_record, room, fed_room, packet;
@@ -310,9 +329,9 @@ static void replay_list(const octets *start)
         number = given.number;
         changes = reported();
         step_into(&open_in_run, &fed_record, &packet, &fed_room);
-        demand(number == given.number && changes == reported(), "a step answers or reports another number than the open of its packet");
-        demand(memcmp(record.at, fed_record.at, RECORD_OCTETS) == 0, "a step leaves another record than the open of its packet");
-        demand(memcmp(room.at, fed_room.at, LONGEST_PLAIN) == 0, "a step opens to other octets than the open of its packet");
+        demand(number == given.number && changes == reported(), "a step answers or reports another number than open");
+        demand(memcmp(record.at, fed_record.at, RECORD_OCTETS) == 0, "a step leaves another record than open");
+        demand(memcmp(room.at, fed_room.at, LONGEST_PLAIN) == 0, "a step opens to other octets than open");
         replayed++;
     }
     demand(offset == list.tape.n, "a replay does not come to the end");
@@ -325,7 +344,7 @@ static void compare_replays(unsigned bits, bool stateful)
     static octets start, sender;
 
     for (int k = 0; k < REPLAYS; k++) {
-        make_begin(&start, bits, stateful);
+        make_start(&start, bits, stateful);
         copy(&sender, &start);
         clear_list();
         make_arrivals(&sender);
@@ -344,6 +363,7 @@ unsigned long compare_tapes(unsigned long seed)
         compare_replays(strength_bits(k), false);
         compare_replays(strength_bits(k), true);
     }
-    printf("tapes: %lu calls, all equal; %lu written, %lu changed in an octet, %lu packets replayed\n", steps.calls, written, changed, replayed);
+    printf("tapes: %lu calls, all equal; %lu written, %lu changed in an octet, %lu packets replayed\n", steps.calls, written, changed,
+           replayed);
     return steps.calls;
 }
