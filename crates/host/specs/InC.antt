@@ -1,10 +1,10 @@
--- Demand 3 and M-105 for a program in C, proved: from the claims over records, since a list of calls on octets is the list of calls on
--- records.
+-- Demand 3, M-105 and the replay of M-109 for a program in C, proved: from the claims over records, since a list of calls on octets is the
+-- list of calls on records.
 use mathlib.Core.Path.{_≡_, refl, sym, ap, _∙_}
 use mathlib.Core.Bool.{false}
-use mathlib.Core.List.{List, [], _∷_, map}
-use Prim.Native.Nat.{ℕ}
-use lib.ListN.{length}
+use mathlib.Core.List.{List, [], _∷_, _++_, map, map-append}
+use Prim.Native.Nat.{ℕ, zero, suc, _+_}
+use lib.ListN.{length, replicate}
 use Rattle.answer.specs.Answer.{done}
 use Rattle.mppe_keys.specs.declared.Strength.{Strength}
 use Rattle.mppe_keys.specs.declared.Mode.the-variants.{Stateless}
@@ -16,10 +16,13 @@ use Rattle.mppe_runs.specs.AnyOrderRun.{AnyOrder}
 use Rattle.mppe_runs.specs.Demand3.{demand-3-base}
 use Rattle.mppe_runs.specs.AnyOrder.{any-order-base}
 use Rattle.mppe_record.specs.Record.{strengthOf, recordLength, recordOctets}
-use Rattle.mppe_record.specs.Laws.{bits-back, bits-known, Sized, recordOctets-length, new-sized, seal-sized, open-sized}
-use Rattle.host.specs.Host.{Given, Linked, newLinkGiven, linkedBy, linked, sealLinked, openLinked}
+use Rattle.mppe_record.specs.Laws.{bits-back, bits-known, Sized, recordOctets-length, reads-back, new-sized, seal-sized, open-sized}
+use Rattle.tape.specs.Tape.{mostGroups, recordSize, tapeOf}
+use Rattle.tape.specs.Replay.{Step, stepOf, held, atEnd, heldAfter, replay, fed, Replays}
+use Rattle.tape.specs.ReplayLaws.{of-step, replays-base}
+use Rattle.host.specs.Host.{Given, Linked, newLinkGiven, linkedBy, linked, sealLinked, openLinked, stepWith, replayLinked, replayOffset}
 use Rattle.host.specs.Laws.{linked-on, given-fits, new-whole}
-use Rattle.host.specs.Run.{Begun, sealsLinked, opensLinked, RunInC, Demand3InC, AnyOrderInC}
+use Rattle.host.specs.Run.{Begun, sealsLinked, opensLinked, RunInC, Demand3InC, AnyOrderInC, StepInC, replayInC, fedInC, endInC, ReplaysInC}
 
 -- a call and the calls behind it: where those agree, so do all
 module _ (call : Link → Result) (behindInC : List ℕ → List Linked) (behind : Link → List Result) where
@@ -89,3 +92,66 @@ demand-3-in-c = in-c _ _ demand-3-base
 pub any-order-in-c : AnyOrderInC
 unfolding AnyOrderInC AnyOrder
 any-order-in-c = in-c _ _ any-order-base
+
+-- a step of a replay, with its record as octets
+abbrev stepInC : Step → StepInC
+stepInC s = record { linked = linkedBy (s .result); offset = s .offset }
+
+-- so steps from the octets of a record on are the steps from that record on ..
+step-sized : (l : Link) (room tape : List ℕ) (o : ℕ) → Sized l → Sized (stepWith l tape o room .result .outcome .link)
+step-sized l room tape o h =
+    of-step (λ r. Sized (r .outcome .link)) mostGroups longestPlain farthest (held l room) tape o (λ code. h)
+    (λ packet. open-sized longestPlain farthest l packet room h)
+
+step-on : (l : Link) (room tape : List ℕ) (o : ℕ) → Sized l
+    → (replayLinked (recordOctets l) tape o room ≡ linkedBy (stepWith l tape o room .result))
+    × (replayOffset (recordOctets l) tape o room ≡ stepWith l tape o room .offset)
+unfolding replayLinked replayOffset
+step-on l room tape o h = (linked-on (λ l. stepWith l tape o room .result) l room h, rw (reads-back l h))
+
+replay-linked : (n : ℕ) (l : Link) (room tape : List ℕ) (o : ℕ) → Sized l
+    → replayInC n (recordOctets l) room tape o ≡ map stepInC (replay mostGroups longestPlain farthest n (held l room) tape o)
+unfolding replayInC replay
+replay-linked zero l room tape o h = refl
+replay-linked (suc n) l room tape o h =
+    let s : Step = stepWith l tape o room in
+    let (result, offset) = step-on l room tape o h in
+    rw (result, offset)
+    (ap (λ (rest : List StepInC). stepInC s ∷ rest)
+    (replay-linked n (s .result .outcome .link) (s .result .buffer) tape (s .offset) (step-sized l room tape o h)))
+
+-- .. calls of open in turn from the octets of a record on those from that record on, and so is what they leave
+fed-linked : (ps : List (List ℕ)) (l : Link) (room : List ℕ) (o : ℕ) → Sized l
+    → fedInC (recordOctets l) room o ps ≡ map stepInC (fed mostGroups longestPlain farthest (held l room) o ps)
+unfolding fedInC fed openLinked
+fed-linked [] l room o h = refl
+fed-linked (p ∷ ps) l room o h =
+    let r : Result = openResult longestPlain farthest l p room in
+    let after : ℕ = o + recordSize mostGroups (length p) in
+    rw (linked-on (λ l. openResult longestPlain farthest l p room) l room h)
+    (ap (λ (rest : List StepInC). stepInC (stepOf r after) ∷ rest)
+    (fed-linked ps (r .outcome .link) (r .buffer) after (open-sized longestPlain farthest l p room h)))
+
+end-linked : (ps : List (List ℕ)) (l : Link) (room : List ℕ) (o : ℕ) → Sized l
+    → endInC (recordOctets l) room o ps ≡ stepInC (atEnd (heldAfter longestPlain farthest (held l room) ps) o)
+unfolding endInC heldAfter openLinked
+end-linked [] l room o h = refl
+end-linked (p ∷ ps) l room o h =
+    let r : Result = openResult longestPlain farthest l p room in
+    rw (linked-on (λ l. openResult longestPlain farthest l p room) l room h)
+    (end-linked ps (r .outcome .link) (r .buffer) o (open-sized longestPlain farthest l p room h))
+
+ends-linked : (n : ℕ) (s : Step) → map stepInC (replicate n s) ≡ replicate n (stepInC s)
+ends-linked zero s = refl
+ends-linked (suc n) s = ap (λ (rest : List StepInC). stepInC s ∷ rest) (ends-linked n s)
+
+pub replays-in-c : ReplaysInC
+unfolding ReplaysInC Replays
+replays-in-c ps all l h well room n =
+    let tape : List ℕ = tapeOf mostGroups ps in
+    let end : Step = atEnd (heldAfter longestPlain farthest (held l room) ps) (length tape) in
+    replay-linked (length ps + n) l room tape 1 h ∙ ap (map stepInC) (replays-base ps all (held l room) well n)
+    ∙ map-append stepInC (fed mostGroups longestPlain farthest (held l room) 1 ps) (replicate n end)
+    ∙ ap (λ (front : List StepInC). front ++ map stepInC (replicate n end)) (sym (fed-linked ps l room 1 h))
+    ∙ ap (λ (rest : List StepInC). fedInC (recordOctets l) room 1 ps ++ rest)
+    (ends-linked n end ∙ ap (λ (s : StepInC). replicate n s) (sym (end-linked ps l room (length tape) h)))

@@ -14,7 +14,7 @@ use Rattle.octets.specs.Octets.{Octets}
 use Rattle.mppe_keys.specs.declared.Strength.{Strength}
 use Rattle.mppe_keys.specs.Keys.{byMode, modeIf}
 use Rattle.mppe.specs.declared.Link.{Link}
-use Rattle.mppe.specs.Link.{Result, longestPlain, farthest, newLink, newLinkCode, withBox, wellFormed, refusal, sealCode, sealResult, openResult, resetCode, resetOutcome}
+use Rattle.mppe.specs.Link.{Result, longestPlain, farthest, newLink, newLinkCode, withBox, refusal, sealCode, sealResult, openResult, resetCode, resetOutcome}
 use Rattle.mppe.specs.Laws.{report-bound, open-answers, open-other}
 use Rattle.mppe_record.specs.Record.{strengthOf, noStrength, recordLength, recordOctets, recordRead}
 use Rattle.mppe_record.specs.Laws.{Sized, recordOctets-length, reads-back, writes-back, new-sized}
@@ -24,8 +24,9 @@ use Rattle.mppe_pieces.specs.Walk.{Fed, over, onWith, beginStep, closes, feedRe
 use Rattle.mppe_pieces.specs.Laws.{calls}
 use Rattle.mppe_walk.specs.Walk.{walkLength, walkOctets, frontRead, walkRead}
 use Rattle.mppe_walk.specs.Laws.{in-front-octets, front-kept, writes-back as walk-back, read-refused, over-octets}
-use Rattle.tape.specs.Tape.{mostGroups, longestPacket, onPacket, readAt}
-use Rattle.tape.specs.Replay.{stepOf, replayStep}
+use Rattle.tape.specs.Tape.{mostGroups}
+use Rattle.tape.specs.Replay.{held}
+use Rattle.tape.specs.ReplayLaws.{of-step}
 use Rattle.host.specs.Host.{Given, Linked, given, newLinkGiven, linkedBy, unchanged, linked, sealLinked, openLinked, resetLinked, walkedBy, stepped, walked, feedWalked, endWalked, closedOctets, beginWalked, stepWith, replayLinked}
 
 -- a call on the octets of a record is the call on that record
@@ -125,23 +126,9 @@ replay-refused octets tape offset out all not0 not11 =
     linked-refused NorWaiting (λ l. stepWith l tape offset out .result) octets out each all (not0, not11)
   where
     each : Refuses NorWaiting (λ l. stepWith l tape offset out .result) out
-    each l = unfold replayStep in by (wellFormed l) (readAt mostGroups longestPacket tape offset .packet)
-      where
-        after : ℕ
-        after = readAt mostGroups longestPacket tape offset .offset
-
-        code : ℕ
-        code = readAt mostGroups longestPacket tape offset .answer
-
-        step : Bool → List ℕ → Result
-        step well packet =
-            pick well (onPacket packet (stepOf (openResult longestPlain farthest l packet out) after) (stepOf (refusal code l out) after))
-            (stepOf (refusal notRecord l out) 0) .result
-
-        by : (well : Bool) (packet : List ℕ) → NorWaiting (step well packet .outcome .answer) → step well packet ≡ refusal (step well packet .outcome .answer) l out
-        by false packet stays = refl
-        by true [] stays = refl
-        by true (x ∷ xs) stays = open-stays (x ∷ xs) out l stays
+    each l =
+        of-step (λ r. NorWaiting (r .outcome .answer) → r ≡ refusal (r .outcome .answer) l out) mostGroups longestPlain farthest (held l out) tape offset
+        (λ code stays. refl) (λ packet. open-stays packet out l)
 
 -- a refused call on a walk leaves it, or closes it by some of its numbers ..
 abbrev pub Closes : (closing : ℕ → Bool) → (Walk → Fed) → List ℕ → Type 0

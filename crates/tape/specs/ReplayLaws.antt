@@ -1,17 +1,34 @@
 -- Replay, proved: `replays` at the end is the claim.
 use mathlib.Core.Path.{_≡_, refl, ap}
-use mathlib.Core.Bool.{true}
+use mathlib.Core.Bool.{Bool, true, false}
 use mathlib.Core.List.{List, [], _∷_, _++_}
 use Prim.Native.Nat.{ℕ, zero, suc, _+_, _^_, _<_, _≤_}
 use native.Mathlib.Nat.{zero-add}
 use native.Mathlib.Omega.{arith}
 use lib.ListN.{length, drop, getD, replicate, length-drop}
+use Rattle.answer.specs.Answer.{notRecord, pick}
 use Rattle.answer.specs.Laws.{within}
-use Rattle.mppe.specs.Link.{front, longestPlain, farthest, wellFormed, Result, openResult}
+use Rattle.mppe.specs.Link.{front, longestPlain, farthest, wellFormed, Result, refusal, openResult}
 use Rattle.mppe.specs.Laws.{open-well}
-use Rattle.tape.specs.Tape.{firstOctet, shortestPacket, mostGroups, recordSize, recordOf, recordsOf, tapeOf, Writable}
+use Rattle.tape.specs.Tape.{firstOctet, shortestPacket, mostGroups, Read, onPacket, readAt, recordSize, recordOf, recordsOf, tapeOf, Writable}
 use Rattle.tape.specs.Laws.{on-packet, past, read-end, read-record}
 use Rattle.tape.specs.Replay.{stepOf, Held, heldBy, atEnd, replayStep, replay, fed, heldAfter, Replays}
+
+-- what holds of a refusal and of everything that open gives holds of a step
+pub of-step : (P : Result → Type 0) (k limit far : ℕ) (h : Held) (tape : List ℕ) (o : ℕ) → ((code : ℕ) → P (refusal code (h .link) (h .room)))
+    → ((packet : List ℕ) → P (openResult limit far (h .link) packet (h .room))) → P (replayStep k limit far h tape o .result)
+unfolding replayStep
+of-step P k limit far h tape o refused opened = by (wellFormed (h .link)) (readAt k (front + limit) tape o .packet)
+  where
+    r : Read
+    r = readAt k (front + limit) tape o
+
+    by : (well : Bool) (packet : List ℕ)
+        → P (pick well (onPacket packet (stepOf (openResult limit far (h .link) packet (h .room)) (r .offset)) (stepOf (refusal (r .answer) (h .link) (h .room)) (r .offset)))
+        (stepOf (refusal notRecord (h .link) (h .room)) 0) .result)
+    by false packet = refused notRecord
+    by true [] = refused (r .answer)
+    by true (x ∷ xs) = opened (x ∷ xs)
 
 module _ (k limit far : ℕ) (fits : front + limit < 128 ^ k) where
   -- a step at a record, and one at the end
