@@ -39,17 +39,16 @@
  *       udukemb_feed                    3800
  *       udukemb_new_link                 900
  *       udukemb_nt_response             2800
- *       udukemb_open                    4100
+ *       udukemb_open                    4800
  *       udukemb_option_reply             200
  *       udukemb_reset                   1300
  *       udukemb_seal                    3700
  *       udukemb_start_key                900
  *       udukemb_tape_begin               200
  *       udukemb_tape_read                200
- *       udukemb_tape_replay             5000
+ *       udukemb_tape_replay             5100
  *       udukemb_tape_write               200
  *       udukemb_write_reset              200
- * The four of a tape are guesses, and not measured yet.
  */
 
 #ifndef UDUKEMB_H

@@ -1,9 +1,13 @@
 -- The lengths that 02 writes out, and a read of each kind.
 use mathlib.Core.Path.{_≡_, refl}
+use mathlib.Core.Bool.{true}
 use mathlib.Core.List.{List, [], _∷_}
 use Prim.Native.Nat.{ℕ}
 use Rattle.answer.specs.Answer.{done, shape, size}
+use Rattle.mppe.specs.declared.Link.{Link}
+use Rattle.mppe.specs.Link.{longestPlain, farthest, wellFormed, refusal, openCode, openResult}
 use Rattle.tape.specs.Tape.{longestPacket, mostGroups, groups, lengthIn, Read, reading, recordOf, recordsOf, tapeOf, recordRead, readAt}
+use Rattle.tape.specs.Replay.{Step, stepOf, held, replayStep, replay}
 
 -- a length beside its groups, written and read
 abbrev Stands : ℕ → List ℕ → Type 0
@@ -56,3 +60,24 @@ bad-places = (refl, refl, refl, refl)
 pub inside-record : at tape 7 ≡ reading done (7 ∷ 9 ∷ 8 ∷ 7 ∷ 6 ∷ 5 ∷ []) 14
 unfolding groups lengthIn readAt recordRead
 inside-record = refl
+
+-- a replay of the tape with any well-formed record: neither packet begins with 00 FD, so both are refused with 1, record and room stay, and
+-- the offset goes on all the same
+module _ (l : Link) (room : List ℕ) (well : wellFormed l ≡ true) where
+  refused : (openResult longestPlain farthest l six room ≡ refusal shape l room) × (openResult longestPlain farthest l seven room ≡ refusal shape l room)
+  unfolding openResult openCode
+  refused = (rw well, rw well)
+
+  abbrev step : ℕ → Step
+  step offset = replayStep mostGroups longestPlain farthest (held l room) tape offset
+
+  steps :
+      (step 1 ≡ stepOf (refusal shape l room) 8) × (step 8 ≡ stepOf (refusal shape l room) 16) × (step 16 ≡ stepOf (refusal done l room) 16)
+  unfolding replayStep
+  steps = (rw (well, read-through .0, refused .0), rw (well, read-through .1, refused .1), rw (well, read-through .2))
+
+  pub refused-through :
+      replay mostGroups longestPlain farthest 3 (held l room) tape 1
+      ≡ stepOf (refusal shape l room) 8 ∷ stepOf (refusal shape l room) 16 ∷ stepOf (refusal done l room) 16 ∷ []
+  unfolding replay
+  refused-through = rw (steps .0, steps .1, steps .2)
