@@ -1,6 +1,7 @@
 /* The large comparison of the calls that the C host does not export, and of the link's own: cases from a seed, answered by the oracle and,
    through pipes, by the program crates/cases. Arguments: that program, the seed, and how many cases for each call. */
 #include "links.h"
+#include "tape_cases.h"
 
 #include <signal.h>
 #include <stdlib.h>
@@ -13,13 +14,13 @@ enum {
     MD4, SHA1, SHA256, HMAC_SHA256, DES, RC4_KEYED, RC4_RUN, RC4_DRAW, RC4_APPLY, RC4_TESTS, RC4_WITHIN,
     PASSWORD_HASH = 16, HASH_HASH, HASH_CHALLENGE, CHALLENGE_RESPONSE,
     READ_CHALLENGE = 32, READ_RESPONSE, NAME, WRITE_CHALLENGE, WRITE_RESPONSE, READ_OPTION, WRITE_OPTION, ONLY,
-    READ_RESET, WRITE_RESET,
+    READ_RESET, WRITE_RESET, TAPE_PACKET,
     MASTER_KEY = 48, START_KEY, NEW_KEY, INITIAL_SESSION_KEY, REDUCE, KEY_CHANGE, KEY_CHANGES, MAKE_BASE_KEY,
     PLACED_KEY_CHANGES, KEY_LENGTH, PLACED_CIPHER,
     NEW_LINK = 64, SEAL, OPEN, RESET, READ_RECORD
 };
 
-enum { CASE_INPUTS = 3, CASE_HEAD = 19, ANSWER_HEAD = 6, MANY_CHANGES = 5000 };
+enum { CASE_INPUTS = 3, CASE_HEAD = 19, ANSWER_HEAD = 6, MANY_CHANGES = 5000, MOST_NUMBER = 65535 };
 
 /* The pipes to the program and from it. */
 static int to_program, from_program;
@@ -806,6 +807,23 @@ static void expect_taken(const test *t, answer *a)
     a->number = oracle_reset(record_of(t, a), in(t, 1));
 }
 
+/* A tape, and an offset as large as a case's numbers can be. */
+static void make_taped(test *t)
+{
+    size_t offset = make_tape(&t->in[0]);
+
+    t->x = offset < MOST_NUMBER ? (unsigned)offset : MOST_NUMBER;
+}
+
+/* The part of the tape that the packet is. */
+static void expect_packet(const test *t, answer *a)
+{
+    tape_next next = oracle_tape_read(in(t, 0), t->x);
+    size_t n = next.offset - next.start;
+
+    memcpy(field(a, n), t->in[0].at + next.start, n);
+}
+
 static const call calls[] = {
     {"md4", MD4, make_one_text, expect_md4},
     {"sha1", SHA1, make_one_text, expect_sha1},
@@ -832,6 +850,7 @@ static const call calls[] = {
     {"ccp::only", ONLY, make_strength, expect_only},
     {"ccp::read_reset", READ_RESET, make_one_reset, expect_read_reset},
     {"ccp::write_reset", WRITE_RESET, make_write_reset, expect_write_reset},
+    {"tape::packet", TAPE_PACKET, make_taped, expect_packet},
     {"master_key", MASTER_KEY, make_master_key, expect_master_key},
     {"start_key", START_KEY, make_start_key, expect_start_key},
     {"new_key", NEW_KEY, make_two_keys, expect_new_key},

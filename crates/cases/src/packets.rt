@@ -1,4 +1,4 @@
-// Cases of Challenge and Response packets, and of CCP's option and Reset-Request.
+// Cases of Challenge and Response packets, of CCP's option and Reset-Request, and of a tape's packets.
 use crate::Numbers;
 use crate::keys::strength;
 use crate::low;
@@ -8,7 +8,7 @@ use mppe_keys::Mode;
 use mppe_keys::Strength;
 use mschap_packets::Kind;
 
-// The calls 32 to 41.
+// The calls 32 to 42.
 pub fn call(n: Numbers, a: &[u8], b: &[u8], c: &[u8], lent: &mut [u8]) {
     let call = n.call;
     match call {
@@ -22,6 +22,7 @@ pub fn call(n: Numbers, a: &[u8], b: &[u8], c: &[u8], lent: &mut [u8]) {
         39 => tell_only(strength(n.x)),
         40 => tell_reset(a),
         41 => tell_write_reset(low(n.x), lent),
+        42 => tell_packet(n.x, a),
         _ => {}
     }
 }
@@ -103,6 +104,12 @@ fn tell_reset(a: &[u8]) {
 fn tell_write_reset(identifier: u8, lent: &mut [u8]) {
     let number = ccp::write_reset(identifier, lent);
     tell(number, &[], lent);
+}
+
+// The packet of a tape at an offset; the number of a read is compared through C.
+fn tell_packet(offset: usize, a: &[u8]) {
+    let packet = tape::packet(a, offset);
+    tell(0, packet, &[]);
 }
 
 // A set of strengths: 40, 56 and 128 bits, each 1 or 0.
