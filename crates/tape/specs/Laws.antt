@@ -6,13 +6,13 @@ use mathlib.Core.List.{List, [], _∷_, _++_, append-assoc, append-nil}
 use Prim.Native.Nat.{ℕ, zero, suc, _+_, _*_, _-_, _/_, _%_, _^_, _<_, _≤_}
 use native.Mathlib.Omega.{arith}
 use lib.Dec.{eqb, ltb}
-use lib.ListN.{length, take, drop, getD, length-append, length-take, length-drop, take-append-drop}
+use lib.ListN.{length, take, drop, getD, length-append, length-drop, take-append-drop}
 use lib.Seq.{length-take-le, take-append-add, drop-length, take-append-seam, drop-append-seam, drop-drop, getD-drop}
 use borrow.Author.Tests.{lt-ltb, le-ltb, ltb-true, ltb-false, eq-eqb, ne-eqb, eqb-true, not-false}
-use Rattle.answer.specs.Answer.{done, shape, size, pick, firstOf, onDone}
+use Rattle.answer.specs.Answer.{done, shape, size, firstOf}
 use Rattle.answer.specs.Laws.{clear, within, outside-none}
 use Rattle.octets.specs.Octets.{Octets}
-use Rattle.tape.specs.Tape.{firstOctet, shortestPacket, longestPacket, mostGroups, groups, withLow, lengthIn, Read, reading, Contents, ended, behind, holding, onPacket, recordSize, recordOf, recordsOf, tapeOf, Writable, writeCode, writeOut, placeRows, recordRows, packetAt, recordRead, readAt, readOn, contents, ReadsBack, WritesNext}
+use Rattle.tape.specs.Tape.{firstOctet, shortestPacket, longestPacket, mostGroups, groups, withLow, lengthIn, reading, Contents, ended, behind, holding, onPacket, recordSize, recordOf, recordsOf, tapeOf, Writable, writeOut, placeRows, recordRows, recordRead, readAt, readOn, contents, ReadsBack, WritesNext}
 
 -- groups in front of others
 pub low-some : (low high : ℕ) → 0 < high → withLow low high ≡ low + 128 * high

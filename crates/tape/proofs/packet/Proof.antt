@@ -1,30 +1,29 @@
+use Prim.Native.Nat.{_≤_}
 use native.Mathlib.Omega.{arith}
+use lib.ListN.{length}
 use borrow.Author.Needs.{needs}
 use Rattle.tape.specs.Tape.{longestPacket, mostGroups}
 use Rattle.tape.proofs.Laws.{part-fits, part-read, part-at}
 use Rattle.tape.proofs.packet.Statement.{statement}
 use Rattle.tape.proofs.packet.Tie as tie
 
+-- the packet's place is on the tape
+fits : (p : tie.After-read) →
+    let next = p .read .result in
+    (next .start ≤ next .offset) × (next .offset ≤ length (p .before .before .args .tape .now))
+fits p = let a = p .before .before .args in part-fits mostGroups longestPacket (a .tape .now) (a .offset) (p .read .ensures)
+
 read-requires : tie.Need-read-requires
 read-requires c κs = search needs
 
 sub-result : tie.Need-sub-result
-sub-result c =
-    let a = c .before .before .args in
-    let fits = part-fits mostGroups longestPacket (a .tape .now) (a .offset) (c .read .ensures) in
-    omega (arith, fits .0, fits .1)
+sub-result c = omega (arith, fits c .0, fits c .1)
 
 part-result-start : tie.Need-part-result-start
-part-result-start c =
-    let a = c .before .before .args in
-    let fits = part-fits mostGroups longestPacket (a .tape .now) (a .offset) (c .read .ensures) in
-    omega (arith, fits .0, fits .1)
+part-result-start c = omega (arith, fits c .0, fits c .1)
 
 part-result-end : tie.Need-part-result-end
-part-result-end c =
-    let a = c .before .before .args in
-    let fits = part-fits mostGroups longestPacket (a .tape .now) (a .offset) (c .read .ensures) in
-    omega (arith, fits .0, fits .1)
+part-result-end c = omega (arith, fits c .0, fits c .1)
 
 returns : tie.Need-returns
 returns c =

@@ -1,9 +1,20 @@
+use Prim.Native.Nat.{_≤_}
 use native.Mathlib.Omega.{arith}
 use borrow.Author.Needs.{needs}
-use Rattle.tape.specs.Tape.{longestPacket, mostGroups}
+use Rattle.tape.specs.Tape.{shortestPacket, longestPacket, mostGroups}
 use Rattle.tape.proofs.Laws.{record-other, record-carried, record-cut, record-whole}
 use Rattle.tape.proofs.read_record.Statement.{statement}
 use Rattle.tape.proofs.read_record.Tie as tie
+
+-- the length is one of a packet's
+carried : (p : tie.Else1) →
+    let n = p .before .before .length-in .result in
+    (shortestPacket ≤ n) × (n ≤ longestPacket)
+carried p =
+    let beyond = p .before in
+    let said = beyond .before in
+    let a = said .before .before .before .args in
+    record-carried mostGroups longestPacket (a .tape .now) (a .offset) (said .length-in .ensures) (beyond .beyond-packet .ensures) (p .if1 .left)
 
 sub-length-in : tie.Need-sub-length-in
 sub-length-in c = search needs
@@ -32,24 +43,13 @@ returns c =
     record-other mostGroups longestPacket (a .tape .now) (a .offset) (said .length-in .ensures) (beyond .beyond-packet .ensures) (other .if1 .taken) (c .nothing .ensures)
 
 groups-of-requires : tie.Need-groups-of-requires
-groups-of-requires c κs =
-    let beyond = c .before in
-    let said = beyond .before in
-    let a = said .before .before .before .args in
-    record-carried mostGroups longestPacket (a .tape .now) (a .offset) (said .length-in .ensures) (beyond .beyond-packet .ensures) (c .if1 .left) .1
+groups-of-requires c κs = carried c .1
 
 sub-if2 : tie.Need-sub-if2
 sub-if2 c = search needs
 
 add-if2 : tie.Need-add-if2
-add-if2 c =
-    let carried = c .before in
-    let beyond = carried .before in
-    let said = beyond .before in
-    let a = said .before .before .before .args in
-    let few = c .groups-of .ensures .1 in
-    let long = record-carried mostGroups longestPacket (a .tape .now) (a .offset) (said .length-in .ensures) (beyond .beyond-packet .ensures) (carried .if1 .left) .1 in
-    omega arith
+add-if2 c = omega (arith, c .groups-of .ensures .1, carried (c .before) .1)
 
 nothing-requires-2 : tie.Need-nothing-requires-2
 nothing-requires-2 c κs = search needs

@@ -1,4 +1,6 @@
+use Prim.Native.Nat.{_≤_}
 use native.Mathlib.Omega.{arith}
+use lib.ListN.{length}
 use borrow.Author.Needs.{needs}
 use borrow.Author.Tests.{not-true, not-false}
 use Rattle.mppe.specs.Link.{longestPlain, farthest}
@@ -6,6 +8,14 @@ use Rattle.tape.specs.Tape.{longestPacket, mostGroups}
 use Rattle.tape.proofs.Laws.{part-fits, step-ill, step-none, step-some}
 use Rattle.tape.proofs.replay.Statement.{statement}
 use Rattle.tape.proofs.replay.Tie as tie
+
+-- the packet's place is on the tape
+fits : (p : tie.After-read) →
+    let next = p .read .result in
+    (next .start ≤ next .offset) × (next .offset ≤ length (p .before .before .before .before .before .args .tape .now))
+fits p =
+    let a = p .before .before .before .before .before .args in
+    part-fits mostGroups longestPacket (a .tape .now) (a .offset) (p .read .ensures)
 
 well-formed-requires : tie.Need-well-formed-requires
 well-formed-requires c κs = search needs
@@ -36,25 +46,13 @@ returns-2 c =
     step-none mostGroups longestPlain farthest (a .link) (a .room .now) (a .tape .now) (a .offset) (form .well-formed .ensures) (not-false _ (well .if1 .left)) (found .read .ensures) (none .if2 .taken) (c .unmoved2 .ensures)
 
 sub-open : tie.Need-sub-open
-sub-open c =
-    let found = c .before in
-    let a = found .before .before .before .before .before .args in
-    let fits = part-fits mostGroups longestPacket (a .tape .now) (a .offset) (found .read .ensures) in
-    omega (arith, fits .0, fits .1)
+sub-open c = omega (arith, fits (c .before) .0, fits (c .before) .1)
 
 part-open-start : tie.Need-part-open-start
-part-open-start c =
-    let found = c .before in
-    let a = found .before .before .before .before .before .args in
-    let fits = part-fits mostGroups longestPacket (a .tape .now) (a .offset) (found .read .ensures) in
-    omega (arith, fits .0, fits .1)
+part-open-start c = omega (arith, fits (c .before) .0, fits (c .before) .1)
 
 part-open-end : tie.Need-part-open-end
-part-open-end c =
-    let found = c .before in
-    let a = found .before .before .before .before .before .args in
-    let fits = part-fits mostGroups longestPacket (a .tape .now) (a .offset) (found .read .ensures) in
-    omega (arith, fits .0, fits .1)
+part-open-end c = omega (arith, fits (c .before) .0, fits (c .before) .1)
 
 open-requires : tie.Need-open-requires
 open-requires c κs = search needs

@@ -1,9 +1,20 @@
+use Prim.Native.Nat.{_≤_}
 use native.Mathlib.Omega.{arith}
+use lib.ListN.{length}
 use borrow.Author.Needs.{needs}
-use Rattle.tape.specs.Tape.{longestPacket, mostGroups}
+use Rattle.tape.specs.Tape.{shortestPacket, longestPacket, mostGroups}
 use Rattle.tape.proofs.Laws.{write-other, write-carried, write-cut, write-whole}
 use Rattle.tape.proofs.write.Statement.{statement}
 use Rattle.tape.proofs.write.Tie as tie
+
+-- the length is one of a packet's
+carried : (p : tie.Else1) →
+    let n = length (p .before .before .before .before .args .packet .now) in
+    (shortestPacket ≤ n) × (n ≤ longestPacket)
+carried p =
+    let beyond = p .before in
+    let a = beyond .before .before .before .args in
+    write-carried mostGroups longestPacket (a .packet .now) (a .out .now) (beyond .beyond-packet .ensures) (p .if1 .left)
 
 beyond-packet-requires : tie.Need-beyond-packet-requires
 beyond-packet-requires c κs = search needs
@@ -19,10 +30,7 @@ returns c =
     write-other mostGroups longestPacket (a .packet .now) (a .out .now) (beyond .beyond-packet .ensures) (other .if1 .taken) (c .refused .ensures)
 
 groups-of-requires : tie.Need-groups-of-requires
-groups-of-requires c κs =
-    let beyond = c .before in
-    let a = beyond .before .before .before .args in
-    write-carried mostGroups longestPacket (a .packet .now) (a .out .now) (beyond .beyond-packet .ensures) (c .if1 .left) .1
+groups-of-requires c κs = carried c .1
 
 add-if2 : tie.Need-add-if2
 add-if2 c = search needs
@@ -43,11 +51,7 @@ put-groups-requires : tie.Need-put-groups-requires
 put-groups-requires c κs =
     let fits = c .before in
     let size = fits .before in
-    let carried = size .before in
-    let beyond = carried .before in
-    let a = beyond .before .before .before .args in
-    let long = write-carried mostGroups longestPacket (a .packet .now) (a .out .now) (beyond .beyond-packet .ensures) (carried .if1 .left) .1 in
-    (long, omega (arith, size .groups-of .ensures .0, fits .if2 .left))
+    (carried (size .before) .1, omega (arith, size .groups-of .ensures .0, fits .if2 .left))
 
 copy-at-requires : tie.Need-copy-at-requires
 copy-at-requires c κs = search needs
