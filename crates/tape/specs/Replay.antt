@@ -46,7 +46,7 @@ heldAfter limit far h (p ∷ ps) = heldAfter limit far (heldBy (openResult limit
 
 module _ (k limit far : ℕ) where
   -- "A replay step answers 7, or what the read answers if that gives no packet, or else what open answers, then always with the offset
-  -- after the packet". Without a packet record and room stay; a 7 has offset 0, as a refusal has where no offset is asked for.
+  -- after the packet". Without a packet record and room stay; a 7, which comes before the tape is looked at, has offset 0.
   unfoldable pub replayStep : Held → (tape : List ℕ) (offset : ℕ) → Step
   replayStep h tape offset =
       let r : Read = readAt k (front + limit) tape offset in

@@ -32,6 +32,44 @@ unfoldable pub groups : (k n : ℕ) → List ℕ
 groups zero n = []
 groups (suc k) n = pick (ltb n 128) (n ∷ []) ((128 + n % 128) ∷ groups k (n / 128))
 
+-- a tape begun: 2 where there is no octet for it
+unfoldable pub beginCode : (out : List ℕ) → ℕ
+beginCode out = firstOf ((room, ltb (length out) 1) ∷ [])
+
+unfoldable pub beginOut : (out : List ℕ) → List ℕ
+beginOut out = onDone (beginCode out) (written (firstOctet ∷ []) out) out
+
+module _ (k : ℕ) where
+  -- how many octets the record of a packet of n octets has
+  abbrev pub recordSize : ℕ → ℕ
+  recordSize n = length (groups k n) + n
+
+  -- "records: length ..; then the packet"
+  unfoldable pub recordOf : List ℕ → List ℕ
+  recordOf packet = groups k (length packet) ++ packet
+
+  unfoldable pub recordsOf : List (List ℕ) → List ℕ
+  recordsOf [] = []
+  recordsOf (p ∷ ps) = recordOf p ++ recordsOf ps
+
+  -- the tape of a list of packets
+  unfoldable pub tapeOf : List (List ℕ) → List ℕ
+  tapeOf ps = firstOctet ∷ recordsOf ps
+
+  module _ (most : ℕ) where
+    -- "Writing another length is 1, before 2"
+    unfoldable pub writeCode : (packet out : List ℕ) → ℕ
+    writeCode packet out =
+        firstOf ((shape, outside shortestPacket most (length packet)) ∷ (room, ltb (length out) (recordSize (length packet))) ∷ [])
+
+    -- what it answers, with the octets written, and the lent buffer after it
+    unfoldable pub writeAnswer : (packet out : List ℕ) → Written
+    writeAnswer packet out =
+        record { answer = writeCode packet out; length = onDone (writeCode packet out) (recordSize (length packet)) 0 }
+
+    unfoldable pub writeOut : (packet out : List ℕ) → List ℕ
+    writeOut packet out = onDone (writeCode packet out) (written (recordOf packet) out) out
+
 -- a group in front of what those behind it say; 0 where they say 0, which is "a longer form" or no length
 abbrev pub withLow : (low high : ℕ) → ℕ
 withLow low zero = 0
@@ -55,6 +93,38 @@ reading code packet offset = record { answer = code; packet = packet; offset = o
 -- where its packet stands on the tape: it ends at the offset after it
 unfoldable pub nextOf : Read → Next
 nextOf r = record { answer = r .answer; start = r .offset - length (r .packet); offset = r .offset }
+
+-- "before these, a missing or bad first octet is 1, then an offset of 0 or past the end 3"
+abbrev pub placeRows : (tape : List ℕ) (offset : ℕ) → List (ℕ × Bool)
+placeRows tape offset = (shape, not (eqb (getD tape 0 0) firstOctet)) ∷ (size, outside 1 (length tape) offset) ∷ []
+
+module _ (k : ℕ) where
+  -- the length that stands at an offset, and the packet behind it
+  abbrev pub lengthAt : (tape : List ℕ) (offset : ℕ) → ℕ
+  lengthAt tape offset = lengthIn k (drop offset tape)
+
+  abbrev pub packetAt : (tape : List ℕ) (offset : ℕ) → List ℕ
+  packetAt tape offset = take (lengthAt tape offset) (drop (offset + length (groups k (lengthAt tape offset))) tape)
+
+  module _ (most : ℕ) where
+    -- "Other lengths, a longer form, a third group or a cut record are 1"
+    abbrev pub recordRows : (tape : List ℕ) (offset : ℕ) → List (ℕ × Bool)
+    recordRows tape offset =
+        (shape, outside shortestPacket most (lengthAt tape offset))
+        ∷ (shape, ltb (length tape - offset) (recordSize k (lengthAt tape offset)))
+        ∷ []
+
+    -- "gives the next packet .. and the offset after it", or 1 "with the same offset"
+    unfoldable pub recordRead : (tape : List ℕ) (offset : ℕ) → Read
+    recordRead tape offset =
+        let code : ℕ = firstOf (recordRows tape offset) in
+        onDone code (reading done (packetAt tape offset) (offset + recordSize k (lengthAt tape offset))) (reading code [] offset)
+
+    -- "at the end 0, no packet and the same offset"; what is refused before these, "with offset 0"
+    unfoldable pub readAt : (tape : List ℕ) (offset : ℕ) → Read
+    readAt tape offset =
+        let code : ℕ = firstOf (placeRows tape offset) in
+        onDone code (pick (eqb offset (length tape)) (reading done [] offset) (recordRead tape offset)) (reading code [] 0)
 
 -- the first where there is a packet, else the second
 abbrev pub onPacket : {A : Type 0} (packet : List ℕ) (some none : A) → A
@@ -82,92 +152,26 @@ unfoldable pub Writable : (most : ℕ) → List (List ℕ) → Type 0
 Writable most [] = Unit {0}
 Writable most (p ∷ ps) = (outside shortestPacket most (length p) ≡ false) × Writable most ps
 
--- a tape begun: 2 where there is no octet for it
-unfoldable pub beginCode : (out : List ℕ) → ℕ
-beginCode out = firstOf ((room, ltb (length out) 1) ∷ [])
+module _ (k most : ℕ) where
+  -- reads from an offset on, each at the offset that the last gave, until one gives no packet; n bounds their number
+  unfoldable pub readOn : (n : ℕ) (tape : List ℕ) (offset : ℕ) → Contents
+  readOn zero tape offset = ended (readAt k most tape offset)
+  readOn (suc n) tape offset =
+      let r : Read = readAt k most tape offset in
+      onPacket (r .packet) (behind (r .packet) (readOn n tape (r .offset))) (ended r)
 
-unfoldable pub beginOut : (out : List ℕ) → List ℕ
-beginOut out = onDone (beginCode out) (written (firstOctet ∷ []) out) out
+  -- "offset, 1 at first": a tape has fewer records than octets
+  unfoldable pub contents : (tape : List ℕ) → Contents
+  contents tape = readOn (length tape) tape 1
 
--- "before these, a missing or bad first octet is 1, then an offset of 0 or past the end 3"
-abbrev pub placeRows : (tape : List ℕ) (offset : ℕ) → List (ℕ × Bool)
-placeRows tape offset = (shape, not (eqb (getD tape 0 0) firstOctet)) ∷ (size, outside 1 (length tape) offset) ∷ []
+  -- "Each list's tape, and no other, reads back to it."
+  unfoldable pub ReadsBack : Type 0
+  ReadsBack =
+      (tape : List ℕ) (ps : List (List ℕ)) → Octets tape
+      → (contents tape ≡ holding tape ps) ↔ (Writable most ps × (tape ≡ tapeOf k ps))
 
-module _ (k : ℕ) where
-  -- how many octets the record of a packet of n octets has
-  abbrev pub recordSize : ℕ → ℕ
-  recordSize n = length (groups k n) + n
-
-  -- "records: length ..; then the packet"
-  unfoldable pub recordOf : List ℕ → List ℕ
-  recordOf packet = groups k (length packet) ++ packet
-
-  unfoldable pub recordsOf : List (List ℕ) → List ℕ
-  recordsOf [] = []
-  recordsOf (p ∷ ps) = recordOf p ++ recordsOf ps
-
-  -- the tape of a list of packets
-  unfoldable pub tapeOf : List (List ℕ) → List ℕ
-  tapeOf ps = firstOctet ∷ recordsOf ps
-
-  -- the length that stands at an offset, and the packet behind it
-  abbrev pub lengthAt : (tape : List ℕ) (offset : ℕ) → ℕ
-  lengthAt tape offset = lengthIn k (drop offset tape)
-
-  abbrev pub packetAt : (tape : List ℕ) (offset : ℕ) → List ℕ
-  packetAt tape offset = take (lengthAt tape offset) (drop (offset + length (groups k (lengthAt tape offset))) tape)
-
-  module _ (most : ℕ) where
-    -- "Writing another length is 1, before 2"
-    unfoldable pub writeCode : (packet out : List ℕ) → ℕ
-    writeCode packet out =
-        firstOf ((shape, outside shortestPacket most (length packet)) ∷ (room, ltb (length out) (recordSize (length packet))) ∷ [])
-
-    unfoldable pub writeAnswer : (packet out : List ℕ) → Written
-    writeAnswer packet out =
-        record { answer = writeCode packet out; length = onDone (writeCode packet out) (recordSize (length packet)) 0 }
-
-    unfoldable pub writeOut : (packet out : List ℕ) → List ℕ
-    writeOut packet out = onDone (writeCode packet out) (written (recordOf packet) out) out
-
-    -- "Other lengths, a longer form, a third group or a cut record are 1"
-    abbrev pub recordRows : (tape : List ℕ) (offset : ℕ) → List (ℕ × Bool)
-    recordRows tape offset =
-        (shape, outside shortestPacket most (lengthAt tape offset))
-        ∷ (shape, ltb (length tape - offset) (recordSize (lengthAt tape offset)))
-        ∷ []
-
-    -- "gives the next packet .. and the offset after it", or 1 "with the same offset"
-    unfoldable pub recordRead : (tape : List ℕ) (offset : ℕ) → Read
-    recordRead tape offset =
-        let code : ℕ = firstOf (recordRows tape offset) in
-        onDone code (reading done (packetAt tape offset) (offset + recordSize (lengthAt tape offset))) (reading code [] offset)
-
-    -- "at the end 0, no packet and the same offset"; what is refused before these, "with offset 0"
-    unfoldable pub readAt : (tape : List ℕ) (offset : ℕ) → Read
-    readAt tape offset =
-        let code : ℕ = firstOf (placeRows tape offset) in
-        onDone code (pick (eqb offset (length tape)) (reading done [] offset) (recordRead tape offset)) (reading code [] 0)
-
-    -- reads from an offset on, each at the offset that the last gave, until one gives no packet; n bounds their number
-    unfoldable pub readOn : (n : ℕ) (tape : List ℕ) (offset : ℕ) → Contents
-    readOn zero tape offset = ended (readAt tape offset)
-    readOn (suc n) tape offset =
-        let r : Read = readAt tape offset in
-        onPacket (r .packet) (behind (r .packet) (readOn n tape (r .offset))) (ended r)
-
-    -- "offset, 1 at first": a tape has fewer records than octets
-    unfoldable pub contents : (tape : List ℕ) → Contents
-    contents tape = readOn (length tape) tape 1
-
-    -- "Each list's tape, and no other, reads back to it."
-    unfoldable pub ReadsBack : Type 0
-    ReadsBack =
-        (tape : List ℕ) (ps : List (List ℕ)) → Octets tape
-        → (contents tape ≡ holding tape ps) ↔ (Writable most ps × (tape ≡ tapeOf ps))
-
-    -- a record written behind a tape, into the rest of its buffer, makes the tape of one packet more
-    unfoldable pub WritesNext : Type 0
-    WritesNext =
-        (ps : List (List ℕ)) (p rest : List ℕ) → writeCode p rest ≡ done
-        → take (length (tapeOf ps) + recordSize (length p)) (tapeOf ps ++ writeOut p rest) ≡ tapeOf (ps ++ (p ∷ []))
+  -- a record written behind a tape, into the rest of its buffer, makes the tape of one packet more
+  unfoldable pub WritesNext : Type 0
+  WritesNext =
+      (ps : List (List ℕ)) (p rest : List ℕ) → writeCode k most p rest ≡ done
+      → take (length (tapeOf k ps) + recordSize k (length p)) (tapeOf k ps ++ writeOut k most p rest) ≡ tapeOf k (ps ++ (p ∷ []))
