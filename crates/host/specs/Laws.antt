@@ -226,17 +226,24 @@ begin-refused octets four total lent all long = rw (right walkLength octets long
         ∙ ap (λ o. unchanged (begun .answer) o []) (over-octets held ∙ ap (λ f. f ++ replicate (walkLength - recordLength) 0) kept)
     go (suc n) e not0 not11 = refl
 
--- no report is above the farthest distance, whatever the record's octets and the packet are
-pub open-report-bound : (octets packet out : List ℕ) → openLinked octets packet out .changed ≤ farthest
-unfolding openLinked linked
-open-report-bound octets packet out = go (recordRead octets .answer)
+-- no report is above the farthest distance, whatever the record's octets and the packet or the tape are
+linked-bound : (call : Link → Result) (octets out : List ℕ) → ((l : Link) → call l .outcome .changes ≤ farthest) → linked call octets out .changed ≤ farthest
+unfolding linked
+linked-bound call octets out bound = go (recordRead octets .answer)
   where
-    held : Link
-    held = recordRead octets .link
-
-    go : (code : ℕ) → onDone code (linkedBy (openResult longestPlain farthest held packet out)) (unchanged code octets out) .changed ≤ farthest
-    go zero = report-bound longestPlain farthest held packet out
+    go : (code : ℕ) → onDone code (linkedBy (call (recordRead octets .link))) (unchanged code octets out) .changed ≤ farthest
+    go zero = bound (recordRead octets .link)
     go (suc n) = omega arith
+
+pub open-report-bound : (octets packet out : List ℕ) → openLinked octets packet out .changed ≤ farthest
+unfolding openLinked
+open-report-bound octets packet out = linked-bound _ octets out (λ l. report-bound longestPlain farthest l packet out)
+
+pub replay-report-bound : (octets tape : List ℕ) (offset : ℕ) (out : List ℕ) → replayLinked octets tape offset out .changed ≤ farthest
+unfolding replayLinked
+replay-report-bound octets tape offset out =
+    linked-bound _ octets out λ l. of-step (λ r. r .outcome .changes ≤ farthest) mostGroups longestPlain farthest (held l out) tape offset
+    (λ code. omega arith) (λ packet. report-bound longestPlain farthest l packet out)
 
 -- a result that fills the lent buffer
 pub given-fits : (result out : List ℕ) → length result ≡ length out → given done result out ≡ record { code = done; buffer = result }

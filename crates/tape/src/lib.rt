@@ -15,7 +15,7 @@ use mppe::Outcome;
 use mppe::SHORTEST_PLAIN;
 
 // The octet that a tape begins with.
-pub const FIRST_OCTET: u8 = 1;
+const FIRST_OCTET: u8 = 1;
 // The groups that a length has at most.
 const MOST_GROUPS: usize = 2;
 // A group has seven bits, so it is below this, which is the bit on top of them.
