@@ -3,7 +3,7 @@ use mathlib.Core.Path.{_≡_, refl, sym, ap, _∙_}
 use mathlib.Core.Bool.{Bool, true, false, not, _&&_, true≢false, false≢true}
 use mathlib.Core.List.{List, [], _∷_, _++_}
 use Prim.Native.Nat.{ℕ, zero, suc, _<_, _≤_}
-use native.Mathlib.Nat.{suc-ne-zero}
+use native.Mathlib.Nat.{suc-ne-zero, le-trans}
 use lib.Dec.{eqb, ltb}
 use lib.ListN.{length, drop}
 use borrow.Author.Tests.{lt-ltb, le-ltb, ltb-false, eq-eqb, ne-eqb, eqb-true}
@@ -126,6 +126,10 @@ within low high n e = (ltb-false n low (neither (ltb n low) (ltb high n) e .0), 
     neither : (a b : Bool) → pick a true b ≡ false → (a ≡ false) × (b ≡ false)
     neither true b e = absurd (true≢false e)
     neither false b e = (refl, e)
+
+-- a number that is not above its limit: a larger limit says the same of it
+pub outside-larger : (low high high′ n : ℕ) → n ≤ high → high ≤ high′ → outside low high′ n ≡ outside low high n
+outside-larger low high high′ n h larger = rw (le-ltb high n h, le-ltb high′ n (le-trans h larger))
 
 -- an input of the one length named, and one of another
 pub right : (n : ℕ) (input : List ℕ) → length input ≡ n → wrong n input ≡ false

@@ -5,3 +5,4 @@ pub mod Inner
 -- Laws; what is claimed of whole runs stands in crates/mppe_runs.
 pub mod Laws
 pub mod Stateless
+pub mod Larger

@@ -18,12 +18,12 @@ use Rattle.mppe.specs.declared.NewLink.{NewLink}
 use Rattle.mppe.specs.declared.Outcome.{Outcome}
 use Rattle.mppe.specs.declared.Judged.{Judged}
 
--- "Plain packet (two protocol octets and payload): 2 to 1,498"
+-- "Plain packet (two protocol octets and payload): 2 to" 31,998 (02, M-110)
 abbrev pub shortestPlain : ℕ
 shortestPlain = 2
 
 abbrev pub longestPlain : ℕ
-longestPlain = 1498
+longestPlain = 31998
 
 -- "00 FD, two header octets, data": the octets before the data
 abbrev pub front : ℕ

@@ -22,7 +22,7 @@ use rc4::Rc4;
 // The shortest plain packet: two protocol octets.
 pub const SHORTEST_PLAIN: usize = 2;
 // The longest plain packet.
-pub const LONGEST_PLAIN: usize = 1498;
+pub const LONGEST_PLAIN: usize = 31998;
 // The octets before a sealed packet's data.
 pub const FRONT: usize = 4;
 // The protocol number of a sealed packet.

@@ -1,4 +1,4 @@
--- What the proofs of this crate cite: a rotation by no place, a copy one octet longer, a part of a buffer written, words written one after the other.
+-- What the proofs of this crate cite: a rotation by no place, a part of a buffer written, words written one after the other.
 use mathlib.Core.Path.{_≡_, refl, sym, ap, _∙_}
 use mathlib.Core.List.{List, [], _∷_, _++_, append-assoc, append-nil, reverse}
 use Prim.Native.Nat.{ℕ, zero, suc, _+_, _*_, _-_, _/_, _%_, _^_, _≤_, _<_, min}
@@ -6,8 +6,8 @@ use native.Mathlib.Numerals.{add-one}
 use native.Mathlib.Decide.{decLe}
 use native.Mathlib.Omega.{arith}
 use lib.Bits.{or-zero-r}
-use lib.ListN.{length, take, drop, getD, set, replicate, length-append, length-drop, drop-of-length-le, length-replicate}
-use lib.Seq.{length-take-le, drop-cons, take-suc, set-at, take-all, take-at, drop-at, take-length, drop-drop, take-append-seam, drop-append-add}
+use lib.ListN.{length, take, drop, getD, replicate, length-append, length-drop, drop-of-length-le, length-replicate}
+use lib.Seq.{length-take-le, take-suc, take-all, take-at, drop-at, take-length, drop-drop, take-append-seam, drop-append-add}
 use borrow.Author.Tests.{le-leb, lt-leb}
 use borrow.Rule.Slice.PartMut.{putMid}
 use Rattle.octets.specs.Laws.{copy-fits}
@@ -47,15 +47,6 @@ eight x =
     let g : x % 4294967296 / 256 ^ 1 % 256 ≡ x / 256 ^ 1 % 256 = omega arith in
     let h : x % 4294967296 / 256 ^ 0 % 256 ≡ x / 256 ^ 0 % 256 = omega arith in
     rw (a, b, c, d, e, f, g, h)
-
--- one octet more is copied
-pub copy-more : {to : List ℕ} (from to₀ : List ℕ) (i : ℕ) → to ≡ written (take i from) to₀ → i < length from → i < length to₀
-    → set to i (getD from i 0) ≡ written (take (i + 1) from) to₀
-copy-more from to₀ i e hf ht =
-    let l : length (take i from) ≡ i = length-take-le i from (omega arith) in
-    let l′ : length (take (suc i) from) ≡ suc i = length-take-le (suc i) from (omega arith) in
-    rw
-    (e, add-one, l, l′, drop-cons to₀ i 0 ht, set-at (take i from) (getD to₀ i 0) (drop (suc i) to₀) (getD from i 0) i l, take-suc from i 0 hf, append-assoc)
 
 -- all that has room is copied
 pub copy-all : {to : List ℕ} (from to₀ : List ℕ) (n : ℕ) → to ≡ written (take n from) to₀ → n ≡ min (length from) (length to₀)

@@ -1,12 +1,13 @@
--- What callers need of octets: a number and its octets, a copy that has room, texts put together in a local buffer.
+-- What callers need of octets: a number and its octets, a copy one octet longer, one that has room, texts put together in a local buffer.
 use mathlib.Core.Path.{_≡_, refl, sym, ap, _∙_}
 use mathlib.Core.List.{List, [], _∷_, _++_, append-assoc}
 use Prim.Native.Nat.{ℕ, zero, suc, _+_, _*_, _-_, _/_, _%_, _^_, _<_, _≤_}
 use native.Mathlib.Nat.{pow-suc, pow-zero, mod-one, mul-comm, mul-assoc, add-mul, add-assoc}
+use native.Mathlib.Numerals.{add-one}
 use native.Mathlib.Omega.{arith}
 use lib.Arith.{mod-mul}
-use lib.ListN.{length, take, drop, replicate, length-append, length-replicate}
-use lib.Seq.{length-take-le, take-all, drop-drop, take-append-seam, drop-append-add}
+use lib.ListN.{length, take, drop, getD, set, replicate, length-append, length-replicate}
+use lib.Seq.{length-take-le, take-suc, take-all, drop-cons, drop-drop, set-at, take-append-seam, drop-append-add}
 use Rattle.octets.specs.Octets.{bigEndian, joined, fromBigEndian, written, writtenAt}
 
 -- the octets of a number, and the number back from them
@@ -35,6 +36,15 @@ bigEndian-back k n = sym (joined-none (bigEndian k n)) ∙ joined-back 0 k n ∙
 -- as many octets as are taken
 pub count : (n : ℕ) (l : List ℕ) → n ≤ length l → n ≡ length (take n l)
 count n l h = sym (length-take-le n l h)
+
+-- a copy one octet longer
+pub copy-more : {to : List ℕ} (from to₀ : List ℕ) (i : ℕ) → to ≡ written (take i from) to₀ → i < length from → i < length to₀
+    → set to i (getD from i 0) ≡ written (take (i + 1) from) to₀
+copy-more from to₀ i e hf ht =
+    let l : length (take i from) ≡ i = length-take-le i from (omega arith) in
+    let l′ : length (take (suc i) from) ≡ suc i = length-take-le (suc i) from (omega arith) in
+    rw
+    (e, add-one, l, l′, drop-cons to₀ i 0 ht, set-at (take i from) (getD to₀ i 0) (drop (suc i) to₀) (getD from i 0) i l, take-suc from i 0 hf, append-assoc)
 
 -- a copy that has room
 pub copy-fits : (at : ℕ) (q out : List ℕ) → at + length q ≤ length out

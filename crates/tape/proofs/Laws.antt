@@ -1,5 +1,5 @@
 -- From the steps of the code to what the calls answer.
-use mathlib.Core.Path.{_≡_, refl, sym, ap, _∙_}
+use mathlib.Core.Path.{_≡_, refl, sym, ap, subst, _∙_}
 use mathlib.Core.Bool.{Bool, true, false, not}
 use mathlib.Core.List.{List, [], _∷_}
 use Prim.Native.Nat.{ℕ, zero, suc, _+_, _*_, _-_, _/_, _%_, _^_, _<_, _≤_}
@@ -7,12 +7,12 @@ use native.Mathlib.Numerals.{add-one}
 use native.Mathlib.Omega.{arith}
 use lib.Dec.{eqb}
 use lib.ListN.{length, take, drop, getD, set, length-append, length-drop, drop-of-length-le}
-use lib.Seq.{length-take-le, take-all, drop-cons}
+use lib.Seq.{length-take-le, take-all, take-length, drop-cons, drop-drop, getD-drop}
 use borrow.Author.Tests.{lt-ltb, le-ltb, ltb-false, eq-eqb, ne-eqb}
 use Rattle.answer.specs.Answer.{done, shape, room, size, notRecord, pick, outside, firstOf, onDone}
 use Rattle.answer.specs.Laws.{clear, within, not-done}
 use Rattle.octets.specs.Octets.{written, writtenAt, onward}
-use Rattle.octets.specs.Laws.{copy-fits, written-more}
+use Rattle.octets.specs.Laws.{copy-more, copy-fits, written-more}
 use Rattle.mppe.specs.declared.Link.{Link}
 use Rattle.mppe.specs.declared.Outcome.{Outcome}
 use Rattle.mppe.specs.Link.{front, wellFormed, refusal, openResult}
@@ -86,21 +86,63 @@ first-bad x h = rw (ne-eqb x firstOctet h)
 pub first-right : (x : ℕ) → x ≡ firstOctet → not (eqb x firstOctet) ≡ false
 first-right x h = rw (eq-eqb x firstOctet h)
 
--- lengths of one group and of two
-pub one-group : (n : ℕ) → n < 128 → n ∷ [] ≡ groups mostGroups n
-one-group n h = sym (groups-one 1 n h)
+-- a number of more than one group
+more-groups : (j left : ℕ) → 128 ≤ left → left < 128 ^ suc j → 0 < j
+more-groups zero left more below = absurd (omega arith)
+more-groups (suc j) left more below = omega arith
 
-pub two-groups : (n : ℕ) → 128 ≤ n → n ≤ longestPacket → (128 + n % 128) ∷ n / 128 ∷ [] ≡ groups mostGroups n
-two-groups n low high =
-    let parts : n ≡ n % 128 + 128 * (n / 128) = omega arith in
-    let more : groups 2 (n % 128 + 128 * (n / 128)) ≡ (128 + n % 128) ∷ groups 1 (n / 128) = groups-more 1 (n % 128) (n / 128) (omega arith) (omega arith) in
-    let last : groups 1 (n / 128) ≡ n / 128 ∷ [] = groups-one 0 (n / 128) (omega arith) in
-    sym (ap (λ (m : ℕ). groups 2 m) parts ∙ more ∙ ap (λ (l : List ℕ). (128 + n % 128) ∷ l) last)
+-- the groups of a length one by one, lowest first: those from a place on are the groups of what is left of it
+module _ (k n : ℕ) where
+  abbrev pub Left : (i left : ℕ) → Type 0
+  Left i left = (i < k) × (left < 128 ^ (k - i)) × (drop i (groups k n) ≡ groups (k - i) left)
 
--- groups copied into the front of a buffer that has room for them
-pub groups-put : {b : List ℕ} (l : List ℕ) (n : ℕ) (out : List ℕ) → b ≡ written (take (length out) l) out → l ≡ groups mostGroups n
-    → length (groups mostGroups n) ≤ length out → b ≡ written (groups mostGroups n) out
-groups-put l n out e is fits = e ∙ rw (is, take-all (length out) (groups mostGroups n) fits)
+  pub left-all : 0 < k → n < 128 ^ k → Left 0 n
+  left-all some h =
+      let whole : k - 0 ≡ k = omega arith in
+      rw whole (some, h, refl)
+
+  -- the group at a place: one with others behind it, or the last
+  module _ {i left : ℕ} (at : Left i left) where
+    behind : k - i ≡ suc (k - (i + 1))
+    behind = omega (arith, at .0)
+
+    at-place : (g : ℕ) (rest : List ℕ) → groups (k - i) left ≡ g ∷ rest
+        → (i + length (g ∷ rest) ≡ length (groups k n)) × (getD (groups k n) i 0 ≡ g) × (drop (i + 1) (groups k n) ≡ rest)
+    at-place g rest e =
+        let l : List ℕ = groups k n in
+        let here : drop i l ≡ g ∷ rest = at .2 ∙ e in
+        let place : i + 0 ≡ i = omega arith in
+        let size : length l - i ≡ suc (length rest) = sym (length-drop i l) ∙ ap (λ (m : List ℕ). length m) here in (
+          omega arith,
+          ap (λ (j : ℕ). getD l j 0) (sym place) ∙ sym (getD-drop i l 0 0) ∙ ap (λ (m : List ℕ). getD m 0 0) here,
+          sym (drop-drop 1 i l) ∙ ap (λ (m : List ℕ). drop 1 m) here,
+        )
+
+    more-left : 128 ≤ left → groups (k - i) left ≡ (128 + left % 128) ∷ groups (k - (i + 1)) (left / 128)
+    more-left more =
+        let parts : left ≡ left % 128 + 128 * (left / 128) = omega arith in
+        ap (λ (j : ℕ). groups j left) behind ∙ ap (λ (m : ℕ). groups (suc (k - (i + 1))) m) parts
+        ∙ groups-more (k - (i + 1)) (left % 128) (left / 128) (omega arith) (omega arith)
+
+    pub next-group : 128 ≤ left → (i < length (groups k n)) × (getD (groups k n) i 0 ≡ 128 + left % 128) × Left (i + 1) (left / 128)
+    next-group more =
+        let (size, group, rest) = at-place (128 + left % 128) (groups (k - (i + 1)) (left / 128)) (more-left more) in
+        let below : left < 128 ^ suc (k - (i + 1)) = subst (λ (j : ℕ). left < 128 ^ j) behind (at .1) in
+        (omega arith, group, (omega (arith, more-groups (k - (i + 1)) left more below), omega arith, rest))
+
+    pub top-group : left < 128 → (length (groups k n) ≡ i + 1) × (getD (groups k n) i 0 ≡ left)
+    top-group last =
+        let (size, group, _) = at-place left [] (ap (λ (j : ℕ). groups j left) behind ∙ groups-one (k - (i + 1)) left last) in
+        (omega arith, group)
+
+-- a group put behind others in the front of a buffer that has room for all
+pub group-put : {b : List ℕ} (l out : List ℕ) (i g : ℕ) → b ≡ written (take i l) out → getD l i 0 ≡ g → i < length l → length l ≤ length out
+    → set b i g ≡ written (take (i + 1) l) out
+group-put {b} l out i g e is some fits = ap (λ (x : ℕ). set b i x) (sym is) ∙ copy-more l out i e some (omega arith)
+
+pub top-put : {b : List ℕ} (l out : List ℕ) (i g : ℕ) → b ≡ written (take i l) out → getD l i 0 ≡ g → length l ≡ i + 1 → length l ≤ length out
+    → set b i g ≡ written l out
+top-put l out i g e is size fits = group-put l out i g e is (omega arith) fits ∙ rw (← size, take-length)
 
 -- the loop over the groups of a length, from the highest one that may be down to the lowest
 pub before-groups : (k : ℕ) (l : List ℕ) → Said k l k 0

@@ -16,16 +16,16 @@ use Rattle.tape.specs.declared.Written.{Written}
 abbrev pub firstOctet : ℕ
 firstOctet = 1
 
--- "Lengths 6 to 1,502": those of sealed packets
+-- "Lengths 6 to" 32,002: those of sealed packets
 abbrev pub shortestPacket : ℕ
 shortestPacket = front + shortestPlain
 
 abbrev pub longestPacket : ℕ
 longestPacket = front + longestPlain
 
--- "a third group" is refused
+-- "A fourth group is 1"
 abbrev pub mostGroups : ℕ
-mostGroups = 2
+mostGroups = 3
 
 -- "length as groups of seven bits, lowest first, top bit set when more follows, shortest form only": of a length below 128 ^ k
 unfoldable pub groups : (k n : ℕ) → List ℕ

@@ -17,7 +17,7 @@ use mppe::SHORTEST_PLAIN;
 // The octet that a tape begins with.
 const FIRST_OCTET: u8 = 1;
 // The groups that a length has at most.
-const MOST_GROUPS: usize = 2;
+const MOST_GROUPS: usize = 3;
 // A group has seven bits, so it is below this, which is the bit on top of them.
 const MORE: usize = 128;
 
@@ -208,10 +208,13 @@ fn groups_of(n: usize) -> usize
     requires { ⌜ n ≤ longestPacket ⌝ }
     ensures { λ r. ⌜ (r ≡ length (groups mostGroups n)) × (r ≤ mostGroups) ⌝ }
 {
-    if n < MORE {
-        return 1;
+    let mut i = 0;
+    let mut left = n;
+    while MORE <= left {
+        left /= MORE;
+        i += 1;
     }
-    2
+    i + 1
 }
 
 // Writes the groups of a length.
@@ -219,11 +222,14 @@ fn put_groups(n: usize, out: &mut [u8])
     requires { ⌜ (n ≤ longestPacket) × (length (groups mostGroups n) ≤ length (now out)) ⌝ }
     ensures { λ _. ⌜ now (out .exit) ≡ written (groups mostGroups n) (now (out .entry)) ⌝ }
 {
-    if n < MORE {
-        octets::copy(&[n as u8], out);
-        return;
+    let mut i = 0;
+    let mut left = n;
+    while MORE <= left {
+        out[i] = (MORE + left % MORE) as u8;
+        left /= MORE;
+        i += 1;
     }
-    octets::copy(&[(MORE + n % MORE) as u8, (n / MORE) as u8], out);
+    out[i] = left as u8;
 }
 
 // The length that the groups in front of the rest of a tape say; 0 where they say none. Highest group first, since each wants what those behind it

@@ -3,8 +3,9 @@ use Prim.Native.Nat.{_≤_, _-_, min}
 use native.Mathlib.Omega.{arith}
 use lib.ListN.{length-set, length, take}
 use borrow.Author.Needs.{needs}
-use Rattle.octets.proofs.Laws.{copy-more, copy-all}
 use Rattle.octets.specs.Octets.{written}
+use Rattle.octets.specs.Laws.{copy-more}
+use Rattle.octets.proofs.Laws.{copy-all}
 use Rattle.octets.proofs.copy.Statement.{statement}
 use Rattle.octets.proofs.copy.Tie as tie
 

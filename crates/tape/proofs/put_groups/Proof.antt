@@ -1,69 +1,82 @@
-use mathlib.Core.List.{[], _∷_}
-use Prim.Native.Nat.{_+_, _/_, _%_}
+use mathlib.Core.Path.{_≡_, refl}
+use Prim.Native.Nat.{_≤_}
+use native.Mathlib.Omega.{arith}
+use lib.ListN.{length, take, length-set}
 use borrow.Author.Needs.{needs}
-use Rattle.tape.proofs.Laws.{one-group, two-groups, groups-put}
+use Rattle.octets.specs.Octets.{written}
+use Rattle.tape.specs.Tape.{mostGroups, groups}
+use Rattle.tape.proofs.Laws.{Left, left-all, next-group, top-group, group-put, top-put}
 use Rattle.tape.proofs.put_groups.Statement.{statement}
 use Rattle.tape.proofs.put_groups.Tie as tie
 
-cast-t6 : tie.Need-cast-t6
-cast-t6 c = search needs
+abbrev Inv-loop : tie.InvT-loop
+Inv-loop n out₀ i₀ left₀ out i left =
+    Left mostGroups n i left × (length out ≡ length out₀) × (length (groups mostGroups n) ≤ length out₀) × (out ≡ written (take i (groups mostGroups n)) out₀)
 
-slice-aggregate-copy : tie.Need-slice-aggregate-copy
-slice-aggregate-copy c = search needs
+abbrev μ-loop : tie.MeasureT-loop
+μ-loop n out₀ i₀ left₀ out i left = left
 
-copy-requires : tie.Need-copy-requires
-copy-requires c κs = search needs
+loop-holds : tie.Need-loop-holds Inv-loop μ-loop
+loop-holds c = (left-all mostGroups (c .args .n) (omega arith) (omega (arith, c .pre .0)), refl, c .pre .1, refl)
 
-same-length : tie.Need-same-length
+add-out : tie.Need-add-out Inv-loop μ-loop
+add-out c = search needs
+
+cast-out : tie.Need-cast-out Inv-loop μ-loop
+cast-out c = search needs
+
+slice-write-out : tie.Need-slice-write-out Inv-loop μ-loop
+slice-write-out c =
+    let at = c .before in
+    omega (arith, next-group mostGroups (at .before .args .n) (at .loop .inv .0) (c .loop-test .taken) .0)
+
+add-i : tie.Need-add-i Inv-loop μ-loop
+add-i c = search needs
+
+loop-less : tie.Need-loop-less Inv-loop μ-loop
+loop-less c = search needs
+
+loop-again : tie.Need-loop-again Inv-loop μ-loop
+loop-again c =
+    let at = c .before in
+    let n = at .before .args .n in
+    let (left, _, fits, put) = at .loop .inv in
+    let (some, group, next) = next-group mostGroups n left (c .loop-test .taken) in
+    (next, simp length-set (omega arith), fits, group-put (groups mostGroups n) (at .before .args .out .now) (at .loop .i) _ put group some fits)
+
+cast-out-2 : tie.Need-cast-out-2 Inv-loop μ-loop
+cast-out-2 c = search needs
+
+slice-write-out-2 : tie.Need-slice-write-out-2 Inv-loop μ-loop
+slice-write-out-2 c =
+    let at = c .before in
+    omega (arith, top-group mostGroups (at .before .args .n) (at .loop .inv .0) (c .loop-test .left) .0)
+
+same-length : tie.Need-same-length Inv-loop μ-loop
 same-length c = search needs
 
-returns : tie.Need-returns
+returns : tie.Need-returns Inv-loop μ-loop
 returns c =
-    let copied = c .before .before in
-    let one = copied .before .before .before in
-    let s = one .before .before in
-    let n = s .args .n in
-    groups-put (n ∷ []) n (s .args .out .now) (copied .copy .ensures) (one-group n (one .if1 .taken)) (s .pre .1)
-
-add-t14 : tie.Need-add-t14
-add-t14 c = search needs
-
-cast-t15 : tie.Need-cast-t15
-cast-t15 c = search needs
-
-cast-t17 : tie.Need-cast-t17
-cast-t17 c = search needs
-
-slice-aggregate-copy-2 : tie.Need-slice-aggregate-copy-2
-slice-aggregate-copy-2 c = search needs
-
-copy-requires-2 : tie.Need-copy-requires-2
-copy-requires-2 c κs = search needs
-
-same-length-2 : tie.Need-same-length-2
-same-length-2 c = search needs
-
-returns-2 : tie.Need-returns-2
-returns-2 c =
-    let copied = c .before .before in
-    let two = copied .before .before .before in
-    let s = two .before .before in
-    let n = s .args .n in
-    groups-put ((128 + n % 128) ∷ n / 128 ∷ []) n (s .args .out .now) (copied .copy2 .ensures) (two-groups n (two .if1 .left) (s .pre .0)) (s .pre .1)
+    let at = c .before in
+    let n = at .before .args .n in
+    let (left, _, fits, put) = at .loop .inv in
+    let (size, group) = top-group mostGroups n left (c .loop-test .left) in
+    top-put (groups mostGroups n) (at .before .args .out .now) (at .loop .i) _ put group size fits
 
 pub put-groups-spec : {M : Type 1} → statement M
 put-groups-spec =
     tie.close
     (tie.spec
-    cast-t6
-    slice-aggregate-copy
-    copy-requires
+    Inv-loop
+    μ-loop
+    loop-holds
+    add-out
+    cast-out
+    slice-write-out
+    add-i
+    loop-less
+    loop-again
+    cast-out-2
+    slice-write-out-2
     same-length
-    returns
-    add-t14
-    cast-t15
-    cast-t17
-    slice-aggregate-copy-2
-    copy-requires-2
-    same-length-2
-    returns-2)
+    returns)
