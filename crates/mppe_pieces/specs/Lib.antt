@@ -4,3 +4,5 @@ pub mod Walk
 pub mod Pieces
 -- Both proved.
 pub mod Laws
+-- What a larger limit leaves as it was.
+pub mod Larger

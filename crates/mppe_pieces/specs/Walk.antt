@@ -43,8 +43,8 @@ overWith o = record { answer = o .answer; changes = o .changes; walk = over (o .
 abbrev pub onWith : (code : ℕ) → Walk → Step
 onWith code w = record { answer = code; changes = 0; walk = w }
 
--- "Begin with the four header octets, the length of the data part and the room; another header length or a data part outside 2 to 1,498 is
--- 1, and the order is that of open without 4": 7, 1, 5, 6, 10, 11, 2
+-- "Begin with the four header octets, the length of the data part and the room; another header length or a data part outside 2 to" the
+-- limit "is 1, and the order is that of open without 4": 7, 1, 5, 6, 10, 11, 2
 abbrev pub beginRows : (limit far : ℕ) (l : Link) (four : List ℕ) (total lent : ℕ) → List (ℕ × Bool)
 beginRows limit far l four total lent =
     ((notRecord, not (wellFormed l))

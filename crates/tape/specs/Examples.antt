@@ -13,10 +13,12 @@ use Rattle.tape.specs.Replay.{Step, stepOf, held, replayStep, replay}
 abbrev Stands : ℕ → List ℕ → Type 0
 Stands n l = (groups mostGroups n ≡ l) × (lengthIn mostGroups l ≡ n)
 
--- "127 is 7F, 128 is 80 01, 1,502 is DE 0B"
-pub lengths : Stands 127 (0x7F ∷ []) × Stands 128 (0x80 ∷ 0x01 ∷ []) × Stands 1502 (0xDE ∷ 0x0B ∷ [])
+-- "127 is 7F, 128 is 80 01, 1,502 is DE 0B"; "16,384 is 80 80 01 and 32,002 is 82 FA 01", and the length before it
+pub lengths :
+    Stands 127 (0x7F ∷ []) × Stands 128 (0x80 ∷ 0x01 ∷ []) × Stands 1502 (0xDE ∷ 0x0B ∷ []) × Stands 16383 (0xFF ∷ 0x7F ∷ [])
+    × Stands 16384 (0x80 ∷ 0x80 ∷ 0x01 ∷ []) × Stands 32002 (0x82 ∷ 0xFA ∷ 0x01 ∷ [])
 unfolding groups lengthIn
-lengths = ((refl, refl), (refl, refl), (refl, refl))
+lengths = ((refl, refl), (refl, refl), (refl, refl), (refl, refl), (refl, refl), (refl, refl))
 
 -- a tape of two packets, of six octets and of seven
 abbrev six : List ℕ
@@ -40,14 +42,15 @@ pub read-through : (at tape 1 ≡ reading done six 8) × (at tape 8 ≡ reading 
 unfolding groups lengthIn readAt recordRead
 read-through = (refl, refl, refl)
 
--- "Other lengths" (5 and 1,503), "a longer form, a third group or a cut record" (in its packet, and in its groups) "are 1, with the same
--- offset"
+-- "Other lengths" (5 and 32,003), "a longer form" (in two groups and in three), a fourth group "or a cut record" (in its packet, and in its
+-- groups) "are 1, with the same offset"
 pub bad-records :
-    (at (1 ∷ 5 ∷ six) 1 ≡ reading shape [] 1) × (at (1 ∷ 0xDF ∷ 0x0B ∷ six) 1 ≡ reading shape [] 1)
-    × (at (1 ∷ 0x86 ∷ 0 ∷ six) 1 ≡ reading shape [] 1) × (at (1 ∷ 0x86 ∷ 0x80 ∷ 1 ∷ six) 1 ≡ reading shape [] 1)
-    × (at (1 ∷ 7 ∷ six) 1 ≡ reading shape [] 1) × (at (1 ∷ 0x86 ∷ []) 1 ≡ reading shape [] 1)
+    (at (1 ∷ 5 ∷ six) 1 ≡ reading shape [] 1) × (at (1 ∷ 0x83 ∷ 0xFA ∷ 0x01 ∷ six) 1 ≡ reading shape [] 1)
+    × (at (1 ∷ 0x86 ∷ 0 ∷ six) 1 ≡ reading shape [] 1) × (at (1 ∷ 0x86 ∷ 0x80 ∷ 0 ∷ six) 1 ≡ reading shape [] 1)
+    × (at (1 ∷ 0x86 ∷ 0x80 ∷ 0x80 ∷ 1 ∷ six) 1 ≡ reading shape [] 1)
+    × (at (1 ∷ 7 ∷ six) 1 ≡ reading shape [] 1) × (at (1 ∷ 0x86 ∷ 0x80 ∷ []) 1 ≡ reading shape [] 1)
 unfolding groups lengthIn readAt recordRead
-bad-records = (refl, refl, refl, refl, refl, refl)
+bad-records = (refl, refl, refl, refl, refl, refl, refl)
 
 -- "before these, a missing or bad first octet is 1, then an offset of 0 or past the end 3, both with offset 0"
 pub bad-places :

@@ -279,7 +279,7 @@ module _ (k most : ℕ) (fits : most < 128 ^ k) where
           reads-records (length tape) tape 1 ps (ap (λ (l : List ℕ). getD l 0 0) e) (omega arith) (omega arith)
           (omega (arith, records-count ps all)) all (ap (λ (l : List ℕ). drop 1 l) e)
 
--- at the limits of the base
+-- at the limits in force
 pub reads-back-base : ReadsBack mostGroups longestPacket
 reads-back-base = reads-back mostGroups longestPacket (omega arith)
 

@@ -73,6 +73,6 @@ module _ (k limit far : ℕ) (fits : front + limit < 128 ^ k) where
   unfolding Replays tapeOf
   replays ps all h well n = replay-from ps n h (tapeOf k ps) 1 all well refl (omega arith) (omega arith) refl
 
--- at the limits of the base
+-- at the limits in force
 pub replays-base : Replays mostGroups longestPlain farthest
 replays-base = replays mostGroups longestPlain farthest (omega arith)

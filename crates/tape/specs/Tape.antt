@@ -1,4 +1,4 @@
--- The bench tape, in the order and words of 02, M-109. `k` is the largest number of groups, `most` the longest packet.
+-- The bench tape, in the order and words of 02, M-109, with the limits of M-110. `k` is the largest number of groups, `most` the longest packet.
 use mathlib.Core.Path.{_≡_}
 use mathlib.Core.Bool.{Bool, false, not}
 use mathlib.Core.Logic.{_↔_}
@@ -16,7 +16,7 @@ use Rattle.tape.specs.declared.Written.{Written}
 abbrev pub firstOctet : ℕ
 firstOctet = 1
 
--- "Lengths 6 to" 32,002: those of sealed packets
+-- "Lengths 6 to" 32,002, those of sealed packets: "Plain packets go to 31,998, sealed to 32,002"
 abbrev pub shortestPacket : ℕ
 shortestPacket = front + shortestPlain
 
@@ -107,7 +107,7 @@ module _ (k : ℕ) where
   packetAt tape offset = take (lengthAt tape offset) (drop (offset + length (groups k (lengthAt tape offset))) tape)
 
   module _ (most : ℕ) where
-    -- "Other lengths, a longer form, a third group or a cut record are 1"
+    -- "Other lengths, a longer form, .. or a cut record are 1", and "A fourth group is 1"
     abbrev pub recordRows : (tape : List ℕ) (offset : ℕ) → List (ℕ × Bool)
     recordRows tape offset =
         (shape, outside shortestPacket most (lengthAt tape offset))
