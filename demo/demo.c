@@ -114,7 +114,7 @@ static void say_opened(const char *what, struct udukemb_opened opened, const uin
 /* Opens a packet of the stateless link, where the key changes tell how many are missing before it. */
 static void open_packet(uint8_t receiver[UDUKEMB_LINK_RECORD], const char *what, const uint8_t *packet, size_t n)
 {
-    uint8_t plain[UDUKEMB_LONGEST_PLAIN];
+    uint8_t plain[LONGEST_PLAIN];
     struct udukemb_opened opened = udukemb_open(receiver, UDUKEMB_LINK_RECORD, packet, n, plain, sizeof plain);
 
     say_opened(what, opened, plain, n);
@@ -149,7 +149,7 @@ static void run_line(struct line *line, uint8_t receiver[UDUKEMB_LINK_RECORD])
 /* Opens a packet of n octets as the modem hands it over: the octets in front, then pieces of the data, up to where it is cut off. */
 static void open_pieces(uint8_t walk[UDUKEMB_WALK], const char *what, const uint8_t *packet, size_t n, size_t cut)
 {
-    uint8_t plain[UDUKEMB_LONGEST_PLAIN];
+    uint8_t plain[LONGEST_PLAIN];
     struct udukemb_opened opened = udukemb_begin(walk, UDUKEMB_WALK, packet, UDUKEMB_PACKET_FRONT, n - UDUKEMB_PACKET_FRONT,
                                                  sizeof plain);
 

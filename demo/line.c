@@ -85,7 +85,7 @@ void begin_line(struct line *line, bool stateful, const uint8_t start[UDUKEMB_ST
 /* Seals the next packet of a line: a reading or a setpoint as a text, behind a protocol number. */
 static void seal_next(struct line *line)
 {
-    uint8_t plain[PROTOCOL + LONGEST_TEXT] = { 0x00, 0x21 };
+    uint8_t plain[LONGEST_PLAIN] = { 0x00, 0x21 };
     char *text = (char *)plain + PROTOCOL;
     int i = (int)line->sealed + 1;
     int n = line->stateful ? snprintf(text, LONGEST_TEXT, "setpoint %d, valve at %d %%", i, 40 + i)

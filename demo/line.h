@@ -7,7 +7,10 @@
 
 #include "udukemb.h"
 
-enum { BITS = 128, PROTOCOL = 2, LONGEST_TEXT = 64, LONGEST_PACKET = UDUKEMB_PACKET_FRONT + PROTOCOL + LONGEST_TEXT };
+enum { BITS = 128 };
+
+/* A packet of the lines: a protocol number and a text. The lines carry short ones, and buffers for them are as short. */
+enum { PROTOCOL = 2, LONGEST_TEXT = 64, LONGEST_PLAIN = PROTOCOL + LONGEST_TEXT, LONGEST_PACKET = UDUKEMB_PACKET_FRONT + LONGEST_PLAIN };
 
 /* Where a packet has its header, flags and count, and two of the flags. */
 enum { HEADER = 2, BIT_A = 0x80, BIT_D = 0x10 };

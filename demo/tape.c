@@ -15,8 +15,12 @@
 /* The longest line of standard input: a password of characters that have three octets in UTF-8 and two in UTF-16. */
 enum { LONGEST_LINE = UDUKEMB_LONGEST_PASSWORD / 2 * 3 };
 
-/* How many octets the buffer for a file begins with, and how many are shown of a payload that is no text. */
-enum { FIRST_ROOM = 65536, SHOWN = 16 };
+/* How many octets the buffer for a file begins with, and how many are shown of a payload that is no text, and of a text. */
+enum { FIRST_ROOM = 65536, SHOWN = 16, SHOWN_OF_TEXT = LONGEST_TEXT };
+
+/* Plain packets of a backhaul unit: of an information field of 1,500 octets and beyond it, on both sides of where a length on tape gets its
+   third octet, at the limit and beyond it. */
+static const size_t backhaul[] = { 1498, 1499, 16379, 16380, UDUKEMB_LONGEST_PLAIN, UDUKEMB_LONGEST_PLAIN + 1 };
 
 /* The status on wrong usage, and what stands for the value of something that is no hexadecimal digit. */
 enum { WRONG_USAGE = 2, NO_DIGIT = 16 };
@@ -36,6 +40,8 @@ static const char usage[] =
     "usage:\n"
     "  tape record FILE stateless|stateful\n"
     "      records what arrives over a line of the demonstration: readings, stateless, or setpoints, stateful\n"
+    "  tape record FILE stateless|stateful backhaul\n"
+    "      records packets of a backhaul unit, of lengths up to the longest\n"
     "  tape list FILE\n"
     "      lists the packets of a tape\n"
     "  tape replay FILE BITS stateless|stateful key\n"
@@ -241,21 +247,21 @@ static void put(const char *file, FILE *to, const uint8_t *octets, size_t n)
         stop("%s cannot be written: %s", file, strerror(errno));
 }
 
-/* Writes what arrives to a tape, where it has so many packets, and says so; how many packets the tape then has. */
-static size_t record_arrival(const char *file, FILE *to, const struct arrival *arrival, size_t packets)
+/* Writes a packet to a tape, where it has so many packets, and says so; how many packets the tape then has. */
+static size_t record_packet(const char *file, FILE *to, const char *label, const uint8_t *packet, size_t n, size_t packets)
 {
     uint8_t record[UDUKEMB_LONGEST_TAPE_RECORD];
-    struct udukemb_written written = udukemb_tape_write(arrival->packet, arrival->length, record, sizeof record);
+    struct udukemb_written written = udukemb_tape_write(packet, n, record, sizeof record);
 
     if (written.answer == UDUKEMB_SHAPE) {
-        printf("  %s: not recorded, since a tape holds packets of %d to %d octets\n", arrival->label, UDUKEMB_SHORTEST_PACKET,
+        printf("  %s: not recorded, since a tape holds packets of %d to %d octets\n", label, UDUKEMB_SHORTEST_PACKET,
                UDUKEMB_LONGEST_PACKET);
         return packets;
     }
     must("a record", written.answer);
     put(file, to, record, written.length);
     packets++;
-    printf("  %s: recorded as number %zu, %zu octets\n", arrival->label, packets, arrival->length);
+    printf("  %s: recorded as number %zu, %zu octets\n", label, packets, n);
     return packets;
 }
 
@@ -263,15 +269,46 @@ static size_t record_arrival(const char *file, FILE *to, const struct arrival *a
 static size_t record_line(const char *file, FILE *to, struct line *line)
 {
     struct arrival arrival;
-    uint8_t start[UDUKEMB_TAPE_START];
     size_t packets = 0;
 
-    must("a tape", udukemb_tape_begin(start, sizeof start));
-    put(file, to, start, sizeof start);
+    printf(line->stateful ? "Setpoints of the control room, as they arrive at the station; number %d is lost\n"
+                          : "Readings of the station, as they arrive at the control room; number %d is lost\n",
+           LOST);
     while (next_arrival(line, &arrival)) {
-        packets = record_arrival(file, to, &arrival, packets);
+        packets = record_packet(file, to, arrival.label, arrival.packet, arrival.length, packets);
         if (line->stateful && arrival.number == ASKED_AFTER)
             ask(line);
+    }
+    return packets;
+}
+
+/* Seals a text of points in a plain packet of n octets. */
+static uint8_t seal_long(uint8_t sender[UDUKEMB_LINK_RECORD], size_t number, size_t n, uint8_t packet[UDUKEMB_LONGEST_PACKET])
+{
+    static uint8_t plain[UDUKEMB_LONGEST_PLAIN + 1] = { 0x00, 0x21 };
+    char *text = (char *)plain + PROTOCOL;
+
+    memset(text, '.', sizeof plain - PROTOCOL);
+    text[snprintf(text, LONGEST_TEXT, "backhaul packet %zu, %zu octets plain ", number, n)] = '.';
+    return udukemb_seal(sender, UDUKEMB_LINK_RECORD, plain, n, packet, UDUKEMB_LONGEST_PACKET);
+}
+
+/* Writes packets of a backhaul unit to a tape, and gives how many are on it. */
+static size_t record_backhaul(const char *file, FILE *to, struct line *line)
+{
+    static uint8_t packet[UDUKEMB_LONGEST_PACKET];
+    size_t packets = 0;
+
+    printf("Packets of a backhaul unit\n");
+    for (size_t k = 0; k < sizeof backhaul / sizeof backhaul[0]; k++) {
+        char label[LONGEST_TEXT];
+        uint8_t answer = seal_long(line->sender, k + 1, backhaul[k], packet);
+
+        snprintf(label, sizeof label, "%zu octets plain", backhaul[k]);
+        if (answer == UDUKEMB_DONE)
+            packets = record_packet(file, to, label, packet, UDUKEMB_PACKET_FRONT + backhaul[k], packets);
+        else
+            printf("  %s: not sealed, refused with %u, %s\n", label, answer, meaning(answer));
     }
     return packets;
 }
@@ -291,12 +328,12 @@ static void show_login(bool stateful, const uint8_t key[UDUKEMB_START_KEY_128])
     show("peer challenge", station_challenge, sizeof station_challenge);
 }
 
-/* Records a line of the demonstration. */
-static void record(const char *file, const char *mode)
+/* Records a line of the demonstration, or packets of a backhaul unit, behind what a tape begins with. */
+static void record(const char *file, const char *mode, size_t (*packets_of)(const char *file, FILE *to, struct line *line))
 {
     static const struct login login = { name, sizeof name, password, sizeof password, control_room_challenge, station_challenge };
     bool stateful = pick(mode, "stateless", "stateful");
-    uint8_t key[UDUKEMB_START_KEY_128];
+    uint8_t key[UDUKEMB_START_KEY_128], start[UDUKEMB_TAPE_START];
     struct line line;
     FILE *to = fopen(file, "wb");
     size_t packets;
@@ -305,10 +342,9 @@ static void record(const char *file, const char *mode)
         stop("%s cannot be written: %s", file, strerror(errno));
     receiving_key(&login, BITS, !stateful, key);
     begin_line(&line, stateful, key);
-    printf(stateful ? "Setpoints of the control room, as they arrive at the station; number %d is lost\n"
-                    : "Readings of the station, as they arrive at the control room; number %d is lost\n",
-           LOST);
-    packets = record_line(file, to, &line);
+    must("a tape", udukemb_tape_begin(start, sizeof start));
+    put(file, to, start, sizeof start);
+    packets = packets_of(file, to, &line);
     if (fclose(to) != 0)
         stop("%s cannot be written: %s", file, strerror(errno));
     printf("packets: %zu\nTo replay them:\n", packets);
@@ -382,21 +418,23 @@ static void list(const char *file)
     free(tape.octets);
 }
 
-/* Prints a payload: as text where all of it can be printed, else its first octets. */
+/* Prints a payload, the first octets of a long one: as text where all of it can be printed. */
 static void show_payload(const uint8_t *payload, size_t n)
 {
-    size_t printable = 0;
+    size_t printable = 0, shown;
 
     while (printable < n && payload[printable] >= ' ' && payload[printable] <= '~')
         printable++;
-    if (printable == n) {
-        printf("\"%.*s\"", (int)n, (const char *)payload);
-        return;
-    }
-    for (size_t i = 0; i < n && i < SHOWN; i++)
-        printf("%02X", payload[i]);
-    if (n > SHOWN)
-        printf(" and %zu octets more", n - SHOWN);
+    shown = printable == n ? SHOWN_OF_TEXT : SHOWN;
+    if (shown > n)
+        shown = n;
+    if (printable == n)
+        printf("\"%.*s\"", (int)shown, (const char *)payload);
+    else
+        for (size_t i = 0; i < shown; i++)
+            printf("%02X", payload[i]);
+    if (n > shown)
+        printf(" and %zu octets more", n - shown);
 }
 
 /* Says what came of a packet of n octets. */
@@ -478,7 +516,9 @@ static void replay_with_login(const char *file, const char *strength, const char
 int main(int argc, char **argv)
 {
     if (argc == 4 && is(argv[1], "record")) {
-        record(argv[2], argv[3]);
+        record(argv[2], argv[3], record_line);
+    } else if (argc == 5 && is(argv[1], "record") && is(argv[4], "backhaul")) {
+        record(argv[2], argv[3], record_backhaul);
     } else if (argc == 3 && is(argv[1], "list")) {
         list(argv[2]);
     } else if (argc == 6 && is(argv[1], "replay") && is(argv[5], "key")) {

@@ -58,9 +58,13 @@
 #include <stddef.h>
 #include <stdint.h>
 
-/* The version of this interface: a new major number may break a program, a new minor one adds to it. */
-#define UDUKEMB_VERSION_MAJOR 3
-#define UDUKEMB_VERSION_MINOR 2
+/*
+ * The version of this interface: a new major number may break a program, a new minor one adds to it. From 3.2 to 4.0 the
+ * longest packet went from 1,502 octets to 32,002: a call that is lent a buffer of the old length refuses a longer one
+ * with 2, but a program must not copy a packet that `udukemb_tape_read` finds into such a buffer.
+ */
+#define UDUKEMB_VERSION_MAJOR 4
+#define UDUKEMB_VERSION_MINOR 0
 
 /* A call whose answer is not looked at is warned of, where the compiler can. */
 #if defined(__GNUC__)
@@ -94,28 +98,28 @@ enum { UDUKEMB_FARTHEST = 2048 };
 
 /* Lengths in octets. */
 enum {
-    UDUKEMB_LONGEST_PASSWORD = 512,    /* UTF-16, low octet first, so always even; no octet is a password too */
-    UDUKEMB_LONGEST_NAME = 256,        /* a user name, with its domain where it has one; it may be empty */
-    UDUKEMB_CHALLENGE = 16,            /* of the authenticator or the peer */
+    UDUKEMB_LONGEST_PASSWORD = 512,     /* UTF-16, low octet first, so always even; no octet is a password too */
+    UDUKEMB_LONGEST_NAME = 256,         /* a user name, with its domain where it has one; it may be empty */
+    UDUKEMB_CHALLENGE = 16,             /* of the authenticator or the peer */
     UDUKEMB_NT_RESPONSE = 24,
-    UDUKEMB_AUTHENTICATOR_STRING = 42, /* "S=" and 40 hexadecimal digits in upper case, no 0 behind them */
+    UDUKEMB_AUTHENTICATOR_STRING = 42,  /* "S=" and 40 hexadecimal digits in upper case, no 0 behind them */
     UDUKEMB_START_KEY_40 = 8,
     UDUKEMB_START_KEY_56 = 8,
     UDUKEMB_START_KEY_128 = 16,
     UDUKEMB_BASE_KEY = 32,
     UDUKEMB_BINDING_KEY = 32,
-    UDUKEMB_LONGEST_MATERIAL = 65535,  /* key material of a binding key */
+    UDUKEMB_LONGEST_MATERIAL = 65535,   /* key material of a binding key */
     UDUKEMB_OPTION = 6,
     UDUKEMB_LINK_RECORD = 295,
-    UDUKEMB_WALK = 577,                /* a link record, and behind it what is known of a packet in pieces */
+    UDUKEMB_WALK = 577,                 /* a link record, and behind it what is known of a packet in pieces */
     UDUKEMB_RESET_REQUEST = 4,
-    UDUKEMB_SHORTEST_PLAIN = 2,        /* a plain packet: two protocol octets and the payload */
-    UDUKEMB_LONGEST_PLAIN = 1498,
-    UDUKEMB_PACKET_FRONT = 4,          /* a sealed packet is this much longer than its plain packet */
+    UDUKEMB_SHORTEST_PLAIN = 2,         /* a plain packet: two protocol octets and the payload */
+    UDUKEMB_LONGEST_PLAIN = 31998,      /* that of an information field of 32,000 octets */
+    UDUKEMB_PACKET_FRONT = 4,           /* a sealed packet is this much longer than its plain packet */
     UDUKEMB_SHORTEST_PACKET = 6,
-    UDUKEMB_LONGEST_PACKET = 1502,
-    UDUKEMB_TAPE_START = 1,            /* what stands in front of a tape's records, and so the first one's offset */
-    UDUKEMB_LONGEST_TAPE_RECORD = 1504 /* a packet's length, one or two octets, and the packet */
+    UDUKEMB_LONGEST_PACKET = 32002,
+    UDUKEMB_TAPE_START = 1,             /* what stands in front of a tape's records, and so the first one's offset */
+    UDUKEMB_LONGEST_TAPE_RECORD = 32005 /* a packet's length, one to three octets, and the packet */
 };
 
 /* A check's answer. `yes` is true exactly if the answer is 0 and every octet received is the one worked out here. */
@@ -292,7 +296,7 @@ UDUKEMB_MUST_USE uint8_t udukemb_new_link(
 
 /*
  * Seals a plain packet into `out`, 4 octets more than it has, and writes the next record over `link_record`.
- * Lengths: record 295, exactly; plain 2 to 1,498.
+ * Lengths: record 295, exactly; plain 2 to 31,998.
  * Answers: 7 record, `link_record` is not 295 octets that hold a well formed record; 3 size, the plain packet's length
  * is outside its limits; 4 protocol, its number is outside 0x0021 to 0x00FA; 2 room, `out` has fewer than
  * plain_len + 4 octets.
@@ -315,7 +319,7 @@ UDUKEMB_MUST_USE uint8_t udukemb_seal(
  * nothing is written into `out`, but the next record is written, and waits. Write a Reset-Request and send it; the
  * sender's next packet then has bit A, and opens. A packet altered on the line may answer 11 too, as it may answer 0,
  * and then moves the record to the count that it carries.
- * Lengths: record 295, exactly; packet 6 to 1,502.
+ * Lengths: record 295, exactly; packet 6 to 32,002.
  * Answers: 7 record, `link_record` is not 295 octets that hold a well formed record; 1 shape, the packet's length is
  * outside its limits, or it does not begin with 00 FD; 5 flags, bit D of its header is 0, or in stateless mode bit A; 6
  * repeat, its count is the last one; 10 late, its count is 2,049 to 4,095 ahead of the last one, modulo 4,096; 11
@@ -369,7 +373,7 @@ UDUKEMB_MUST_USE uint8_t udukemb_write_reset(
  * Begins a walk: `front` is the four octets in front of a packet's data, `total` how many octets the data are, and
  * `room` how many the buffer has that the plain packet is to go into. What stands behind the record is written anew,
  * and not read.
- * Lengths: walk 577, exactly; front 4; total 2 to 1,498.
+ * Lengths: walk 577, exactly; front 4; total 2 to 31,998.
  * Answers: 7 record, `walk` is not 577 octets that begin with a well formed record; 1 shape, `front` or the data have
  * another length, or `front` does not begin with 00 FD; 5 flags, 6 repeat, 10 late, 11 waiting, all as for
  * `udukemb_open`, and 11 moves the record in the same way; 2 room, `room` is less than `total`. Each of these closes
@@ -388,7 +392,7 @@ UDUKEMB_MUST_USE struct udukemb_opened udukemb_begin(
  * answers 0.
  * Lengths: walk 577, exactly; piece 0 to as many octets as are left of the total; out at least the total.
  * Answers: 7 record, `walk` is not 577 octets with a well formed record and a live walk behind it, whose header
- * `udukemb_begin` would not refuse with that record, and whose total is 2 to 1,498 and no less than what is fed; 2
+ * `udukemb_begin` would not refuse with that record, and whose total is 2 to 31,998 and no less than what is fed; 2
  * room, `out` has fewer octets than the total; 3 size, the piece goes beyond the total; 4 protocol, the number inside
  * is outside 0x0021 to 0x00FA. 3 and 4 close the walk; 7 and 2 change nothing.
  */
@@ -412,10 +416,11 @@ UDUKEMB_MUST_USE struct udukemb_opened udukemb_end(
  * step by step.
  *
  * A tape is the octet 1, and then a record for each packet: the packet's length, and the packet. The length, 6 to
- * 1,502, stands in groups of seven bits, lowest first, with the top bit of an octet set when more follows, in the
- * shortest form only: 127 is 7F, 128 is 80 01, 1,502 is DE 0B. Nothing closes a tape, so one more packet is written
- * behind the last, and a tape of no packets is the octet 1 alone. Every tape reads back to the list of packets that it
- * was written of, and no other octets read back to that list.
+ * 32,002, stands in groups of seven bits, lowest first, with the top bit of an octet set when more follows, in the
+ * shortest form only: 127 is 7F, 128 is 80 01, 1,502 is DE 0B, 16,384 is 80 80 01 and 32,002 is 82 FA 01. Nothing closes
+ * a tape, so one more packet is written behind the last, and a tape of no packets is the octet 1 alone. Every tape reads
+ * back to the list of packets that it was written of, and no other octets read back to that list. A tape of a version
+ * before 4.0, whose packets have at most 1,502 octets, reads as it did.
  *
  * An offset is UDUKEMB_TAPE_START, or one that a read or a step handed out. Keep to these: any other that lies inside a
  * record is taken as it stands, so that octets of a packet are read as a length, and what follows as a packet.
@@ -433,8 +438,8 @@ UDUKEMB_MUST_USE uint8_t udukemb_tape_begin(
 
 /*
  * Writes the record of a packet into `out`, which is what is left of the tape's buffer: one octet more than the packet
- * has up to a length of 127, two more from 128 on.
- * Lengths: packet 6 to 1,502.
+ * has up to a length of 127, two more up to 16,383, three more from 16,384 on.
+ * Lengths: packet 6 to 32,002.
  * Answers: 1 shape, the packet's length is outside its limits; 2 room, `out` is shorter than the record.
  */
 UDUKEMB_MUST_USE struct udukemb_written udukemb_tape_write(
@@ -446,7 +451,7 @@ UDUKEMB_MUST_USE struct udukemb_written udukemb_tape_write(
  * with no packet and the offset given.
  * Answers: 1 shape, the tape has no octet or does not begin with 1, and 3 size, the offset is 0 or past the tape's end,
  * both with offset 0; 1 shape, what stands at the offset is no record, with the offset given: its length is outside 6
- * to 1,502, in a longer form or of three groups, or the tape ends before the record does.
+ * to 32,002, in a longer form or of four groups, or the tape ends before the record does.
  */
 UDUKEMB_MUST_USE struct udukemb_next udukemb_tape_read(
     const uint8_t *tape, size_t tape_len,

@@ -1,7 +1,7 @@
 /* What crates/mppe_samples must print, by the oracle: links in both modes, the message of RFC 3079, 3.5, and every way to be refused. */
 #include "sample.h"
 
-enum { LENT = 1600, AT_START = 1, AT_SESSION = 17, AT_COUNT = 33, AT_MODE = 35, AT_MARK = 36, AT_I = 37, AT_CELLS = 39 };
+enum { LENT = 1600, LONG_LENT = 32100, AT_START = 1, AT_SESSION = 17, AT_COUNT = 33, AT_MODE = 35, AT_MARK = 36, AT_I = 37, AT_CELLS = 39 };
 
 /* The octets of a digest that are printed. */
 enum { CUT = 8 };
@@ -82,11 +82,11 @@ static void show(const char *label, size_t number, struct outcome o, const octet
 }
 
 /* The same with the digest of the whole buffer. */
-static void show_digest(const char *label, size_t number, struct outcome o, const octet out[LENT])
+static void show_digest(const char *label, size_t number, struct outcome o, part out)
 {
     octet digest[CUT];
 
-    cut_digest(of(out, LENT), digest);
+    cut_digest(out, digest);
     show(label, number, o, digest, CUT);
 }
 
@@ -274,15 +274,15 @@ static void both(size_t number, struct outcome first, struct outcome link, size_
 
     memcpy(plain, message, 14);
     memset(wire, 0xEE, LENT);
-    seal(first, of(plain, LONGEST_PLAIN), into(wire, LENT));
+    seal(first, of(plain, LENT - FRONT), into(wire, LENT));
     for (int k = 0; k < 6; k++)
         wire[k] ^= mask[k];
     plain[0] ^= mask[4];
     plain[1] ^= mask[5];
     memset(out, 0xEE, LENT);
-    show_digest("seal", number, seal(link, of(plain, given - FRONT), into(out, room)), out);
+    show_digest("seal", number, seal(link, of(plain, given - FRONT), into(out, room)), of(out, LENT));
     memset(out, 0xEE, LENT);
-    show_digest("open", number, open_packet(link, of(wire, given), into(out, room - FRONT)), out);
+    show_digest("open", number, open_packet(link, of(wire, given), into(out, room - FRONT)), of(out, LENT));
 }
 
 /* Sets of rows: 1 record, 2 size and shape, 4 flags (in stateful mode D alone), 8 room, 16 protocol, 32 repeat or 64 late, which never
@@ -294,7 +294,7 @@ static void rows_of(struct outcome first, size_t begin, size_t end)
     cases_from(begin);
     for (size_t set = begin; set < end; set++) {
         octet mask[6] = {0, 0, (set & 4 ? flags : 0) ^ (set & 96 ? 0x0F : 0), set & 32 ? 0xFF : 0, set & 16 ? 0xFF : 0, 0};
-        size_t given = set & 2 ? 1503 : 18;
+        size_t given = set & 2 ? 5 : 18;
         struct outcome link = set & 1 ? counted(first, 8191) : first;
 
         link.record[AT_MARK] = set >= 128;
@@ -477,6 +477,29 @@ static void runs(octet bits)
     run(counted(first, 4091), "sosososososo");
 }
 
+/* Long packets, sealed and opened one after the other: a message in front, and a mark in the last octets. */
+static void long_packets(struct outcome link)
+{
+    static const size_t lengths[] = {1498, 1499, 16379, 16380, 31998, 31999};
+    static octet plain[LONG_LENT], wire[LONG_LENT], out[LONG_LENT];
+    struct outcome sender = link, receiver = link;
+
+    cases_from(lengths[0]);
+    for (size_t k = 0; k < sizeof lengths / sizeof *lengths; k++) {
+        size_t n = lengths[k];
+
+        memset(plain, 0, sizeof plain);
+        memcpy(plain, message, 14);
+        memcpy(plain + n - 7, "the end", 7);
+        memset(wire, 0xEE, sizeof wire);
+        sender = seal(sender, of(plain, n), into(wire, sizeof wire));
+        show_digest("long seal", n, sender, of(wire, sizeof wire));
+        memset(out, 0xEE, sizeof out);
+        receiver = open_packet(receiver, of(wire, FRONT + n), into(out, sizeof out));
+        show_digest("long open", n, receiver, of(out, sizeof out));
+    }
+}
+
 int main(void)
 {
     static const octet strengths[] = {40, 56, 128};
@@ -489,6 +512,8 @@ int main(void)
         first_packet(fresh(strengths[k], true));
         rows_of(steady(strengths[k], true), 128, 224);
         runs(strengths[k]);
+        long_packets(fresh(strengths[k], false));
+        long_packets(fresh(strengths[k], true));
     }
     return 0;
 }

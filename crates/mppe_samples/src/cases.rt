@@ -16,6 +16,7 @@ use crate::shown::show_opened;
 use crate::shown::show_reset;
 use crate::shown::show_whole;
 use crate::struck;
+use mppe::FRONT;
 use mppe::Link;
 use mppe_keys::Mode;
 use mppe_keys::Strength;
@@ -244,10 +245,10 @@ fn message() -> [u8; LENT] {
     plain
 }
 
-// A longest packet of a link; a shorter one has its first octets.
+// A packet of a link that fills the buffer; a shorter one has its first octets.
 fn sealed(link: Link, plain: [u8; LENT]) -> [u8; LENT] {
     let mut wire = [0xEEu8; LENT];
-    seal_within(link, &plain, 1498, &mut wire, LENT);
+    seal_within(link, &plain, LENT - FRONT, &mut wire, LENT);
     wire
 }
 
@@ -282,8 +283,8 @@ fn rows(set: usize, flags: u8) -> Trial {
     let mask = [0, 0, high, if_in(set / 32, 0xFF), if_in(set / 16, 0xFF), 0];
     if set / 2 % 2 == 1 {
         return Trial {
-            given: 1503,
-            room: 1503 - short,
+            given: 5,
+            room: 5 - short,
             mask,
         };
     }

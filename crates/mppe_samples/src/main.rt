@@ -7,10 +7,11 @@ use mppe_keys::Mode;
 use mppe_keys::Strength;
 
 mod cases;
+mod long;
 mod runs;
 mod shown;
 
-// The octets of a buffer, more than any packet has.
+// The octets of a buffer, more than a packet of an information field of 1,500 octets has. Longer ones have buffers of their own.
 const LENT: usize = 1600;
 
 // How a call differs from one with a whole packet and all the room: octets lent, room, and bits of the first octets turned over.
@@ -34,6 +35,8 @@ fn both_modes(strength: Strength) {
     cases::first_packet(fresh(strength, Mode::Stateful));
     cases::waiting_rows(strength);
     runs::all(fresh(strength, Mode::Stateful));
+    long::all(fresh(strength, Mode::Stateless));
+    long::all(fresh(strength, Mode::Stateful));
 }
 
 // A new link of the samples' start key.
