@@ -168,7 +168,7 @@ static void openssl_changes(size_t n) { openssl_changed(128, key, key + 16, n); 
    one has its first octets. OpenSSL's side tests nothing; of a record it keeps RC4's state alone. */
 static struct plain_link link_now;
 static unsigned distance;
-static octet packet[1502];
+static octet packet[LONGEST_PLAIN + 4];
 static RC4_KEY held;
 
 static size_t key_octets(void) { return link_now.bits == 128 ? 16 : 8; }
@@ -199,7 +199,7 @@ static void link_set(int bits, unsigned behind, bool stateful)
     sender.count = stateful ? 0 : 4095;
     if (!stateful)
         plain_key_changes(bits, link_now.start, link_now.session, behind - 1, sender.session);
-    plain_seal(sender, plain_packet(), 1498, packet, sizeof packet);
+    plain_seal(sender, plain_packet(), LONGEST_PLAIN, packet, sizeof packet);
     link_now.count = (sender.count + 1 + 4096 - behind) % 4096;
 }
 
@@ -267,20 +267,25 @@ static const struct measure measures[] = {
     {"seal, 64 octets", ours_seal, plain_seal_of, openssl_seal, 64, 68, 128, 1, false},
     {"seal, 576 octets", ours_seal, plain_seal_of, openssl_seal, 576, 580, 128, 1, false},
     {"seal, 1,498 octets", ours_seal, plain_seal_of, openssl_seal, 1498, 1502, 128, 1, false},
+    {"seal, 31,998 octets", ours_seal, plain_seal_of, openssl_seal, 31998, 32002, 128, 1, false},
     {"open, 64 octets", ours_open, plain_open_of, openssl_open, 64, 64, 128, 1, false},
     {"open, 576 octets", ours_open, plain_open_of, openssl_open, 576, 576, 128, 1, false},
     {"open, 1,498 octets", ours_open, plain_open_of, openssl_open, 1498, 1498, 128, 1, false},
+    {"open, 31,998 octets", ours_open, plain_open_of, openssl_open, 31998, 31998, 128, 1, false},
     {"seal, 64 octets, 40 bits", ours_seal, plain_seal_of, openssl_seal, 64, 68, 40, 1, false},
     {"seal, 1,498 octets, 40 bits", ours_seal, plain_seal_of, openssl_seal, 1498, 1502, 40, 1, false},
     {"open, 64 octets, 40 bits", ours_open, plain_open_of, openssl_open, 64, 64, 40, 1, false},
     {"open, 1,498 octets, 40 bits", ours_open, plain_open_of, openssl_open, 1498, 1498, 40, 1, false},
     {"open, 1,498 octets, 2,047 lost before", ours_open, plain_open_of, openssl_open, 1498, 1498, 128, 2048, false},
     {"open, 1,498 octets in pieces of 64", ours_by_64, plain_open_of, openssl_open, 1498, 1498, 128, 1, false},
+    {"open, 31,998 octets in pieces of 64", ours_by_64, plain_open_of, openssl_open, 31998, 31998, 128, 1, false},
     {"open, 1,498 octets one by one", ours_by_1, plain_open_of, openssl_open, 1498, 1498, 128, 1, false},
     {"stateful seal, 64 octets", ours_seal, plain_seal_of, openssl_seal, 64, 68, 128, 1, true},
     {"stateful seal, 1,498 octets", ours_seal, plain_seal_of, openssl_seal, 1498, 1502, 128, 1, true},
+    {"stateful seal, 31,998 octets", ours_seal, plain_seal_of, openssl_seal, 31998, 32002, 128, 1, true},
     {"stateful open, 64 octets", ours_open, plain_open_of, openssl_open, 64, 64, 128, 1, true},
     {"stateful open, 1,498 octets", ours_open, plain_open_of, openssl_open, 1498, 1498, 128, 1, true},
+    {"stateful open, 31,998 octets", ours_open, plain_open_of, openssl_open, 31998, 31998, 128, 1, true},
     {"stateful open, 1,498 octets in pieces of 64", ours_by_64, plain_open_of, openssl_open, 1498, 1498, 128, 1, true},
 };
 

@@ -472,7 +472,7 @@ struct plain_outcome plain_seal(struct plain_link link, const octet *plain, size
 
     if (!well_formed(&link))
         o.answer = 7;
-    else if (n < 2 || n > 1498)
+    else if (n < 2 || n > LONGEST_PLAIN)
         o.answer = 3;
     else if (wrong_protocol(plain))
         o.answer = 4;
@@ -506,7 +506,7 @@ struct plain_outcome plain_open(struct plain_link link, const octet *packet, siz
 
     if (!well_formed(&link))
         o.answer = 7;
-    else if (n < 6 || n > 1502 || packet[0] != 0x00 || packet[1] != 0xfd)
+    else if (n < 6 || n > LONGEST_PLAIN + 4 || packet[0] != 0x00 || packet[1] != 0xfd)
         o.answer = 1;
     else if ((packet[2] & 0x10) == 0 || (!link.stateful && (packet[2] & 0x80) == 0))
         o.answer = 5;

@@ -6,6 +6,9 @@
 
 typedef uint8_t octet;
 
+/* The longest plain packet (02, M-110). */
+enum { LONGEST_PLAIN = 31998 };
+
 struct plain_rc4 { octet box[256]; octet i, j; };
 struct plain_link {
     int bits, stateful;

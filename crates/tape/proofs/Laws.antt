@@ -180,6 +180,10 @@ some-packet p start offset e sum =
     let begin : offset - length p ≡ start = omega arith in
     rw (e, begin)
 
+-- a length that is not beyond a packet's is one of a packet's
+pub carried-length : {beyond : Bool} (most n : ℕ) → beyond ≡ outside shortestPacket most n → beyond ≡ false → (shortestPacket ≤ n) × (n ≤ most)
+carried-length most n long carried = within shortestPacket most n (sym long ∙ carried)
+
 -- the ways out of the reading of a record: another length, a cut record, a packet
 module _ (k most : ℕ) (tape : List ℕ) (o : ℕ) {n : ℕ} {beyond : Bool} (said : n ≡ lengthIn k (take (length tape - o) (drop o tape)))
     (long : beyond ≡ outside shortestPacket most n) where
@@ -189,9 +193,6 @@ module _ (k most : ℕ) (tape : List ℕ) (o : ℕ) {n : ℕ} {beyond : Bool} (s
   pub record-other : {next : Next} → beyond ≡ true → next ≡ nothing shape o → next ≡ nextOf (recordRead k most tape o)
   unfolding recordRead
   record-other other is = no-packet shape o (rw (length-is, ← long, other)) is
-
-  pub record-carried : beyond ≡ false → (shortestPacket ≤ n) × (n ≤ most)
-  record-carried carried = within shortestPacket most n (sym long ∙ carried)
 
   module _ {g : ℕ} (carried : beyond ≡ false) (size : g ≡ length (groups k n)) where
     pub record-cut : {next : Next} → length tape - o < g + n → next ≡ nothing shape o → next ≡ nextOf (recordRead k most tape o)
@@ -203,7 +204,7 @@ module _ (k most : ℕ) (tape : List ℕ) (o : ℕ) {n : ℕ} {beyond : Bool} (s
     unfolding recordRead
     record-whole h =
         let after : o + (g + n) ≡ o + g + n = omega arith in
-        let all : length (take n (drop (o + g) tape)) ≡ n = length-take-le n (drop (o + g) tape) (omega (arith, length-drop (o + g) tape, record-carried carried .0)) in
+        let all : length (take n (drop (o + g) tape)) ≡ n = length-take-le n (drop (o + g) tape) (omega (arith, length-drop (o + g) tape, carried-length most n long carried .0)) in
         some-packet (take n (drop (o + g) tape)) (o + g) (o + g + n)
         (rw (length-is, ← long, carried, ← size, le-ltb (length tape - o) (g + n) h, after)) (omega arith)
 
@@ -339,9 +340,6 @@ module _ (k most : ℕ) (p out : List ℕ) {beyond : Bool} (long : beyond ≡ ou
 
   pub write-other : {r : Written} → beyond ≡ true → r ≡ record { answer = shape; length = 0 } → Wrote r out
   write-other other is = kept 0 (unfold writeCode in rw (← long, other)) is
-
-  pub write-carried : beyond ≡ false → (shortestPacket ≤ length p) × (length p ≤ most)
-  write-carried carried = within shortestPacket most (length p) (sym long ∙ carried)
 
   module _ {g : ℕ} (carried : beyond ≡ false) (size : g ≡ length (groups k (length p))) where
     pub write-cut : {r : Written} → length out < g + length p → r ≡ record { answer = room; length = 0 } → Wrote r out

@@ -2,7 +2,7 @@ use Prim.Native.Nat.{_≤_}
 use native.Mathlib.Omega.{arith}
 use borrow.Author.Needs.{needs}
 use Rattle.tape.specs.Tape.{shortestPacket, longestPacket, mostGroups}
-use Rattle.tape.proofs.Laws.{record-other, record-carried, record-cut, record-whole}
+use Rattle.tape.proofs.Laws.{carried-length, record-other, record-cut, record-whole}
 use Rattle.tape.proofs.read_record.Statement.{statement}
 use Rattle.tape.proofs.read_record.Tie as tie
 
@@ -12,9 +12,7 @@ carried : (p : tie.Else1) →
     (shortestPacket ≤ n) × (n ≤ longestPacket)
 carried p =
     let beyond = p .before in
-    let said = beyond .before in
-    let a = said .before .before .before .args in
-    record-carried mostGroups longestPacket (a .tape .now) (a .offset) (said .length-in .ensures) (beyond .beyond-packet .ensures) (p .if1 .left)
+    carried-length longestPacket (beyond .before .length-in .result) (beyond .beyond-packet .ensures) (p .if1 .left)
 
 sub-length-in : tie.Need-sub-length-in
 sub-length-in c = search needs

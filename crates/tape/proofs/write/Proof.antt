@@ -3,7 +3,7 @@ use native.Mathlib.Omega.{arith}
 use lib.ListN.{length}
 use borrow.Author.Needs.{needs}
 use Rattle.tape.specs.Tape.{shortestPacket, longestPacket, mostGroups}
-use Rattle.tape.proofs.Laws.{write-other, write-carried, write-cut, write-whole}
+use Rattle.tape.proofs.Laws.{carried-length, write-other, write-cut, write-whole}
 use Rattle.tape.proofs.write.Statement.{statement}
 use Rattle.tape.proofs.write.Tie as tie
 
@@ -13,8 +13,7 @@ carried : (p : tie.Else1) →
     (shortestPacket ≤ n) × (n ≤ longestPacket)
 carried p =
     let beyond = p .before in
-    let a = beyond .before .before .before .args in
-    write-carried mostGroups longestPacket (a .packet .now) (a .out .now) (beyond .beyond-packet .ensures) (p .if1 .left)
+    carried-length longestPacket (length (beyond .before .before .before .args .packet .now)) (beyond .beyond-packet .ensures) (p .if1 .left)
 
 beyond-packet-requires : tie.Need-beyond-packet-requires
 beyond-packet-requires c κs = search needs
