@@ -19,7 +19,7 @@ use Rattle.mppe.specs.Link.{front, wellFormed, refusal, openResult}
 use Rattle.tape.specs.declared.Next.{Next}
 use Rattle.tape.specs.declared.Replayed.{Replayed}
 use Rattle.tape.specs.declared.Written.{Written}
-use Rattle.tape.specs.Tape.{firstOctet, shortestPacket, longestPacket, mostGroups, groups, lengthIn, Read, reading, nextOf, onPacket, beginCode, beginOut, placeRows, recordSize, recordOf, lengthAt, packetAt, writeCode, writeAnswer, writeOut, recordRows, recordRead, readAt}
+use Rattle.tape.specs.Tape.{firstOctet, shortestPacket, groups, lengthIn, Read, reading, nextOf, onPacket, beginCode, beginOut, placeRows, recordSize, recordOf, lengthAt, packetAt, writeCode, writeAnswer, writeOut, recordRows, recordRead, readAt}
 use Rattle.tape.specs.Replay.{stepOf, replayed, held, replayStep}
 use Rattle.tape.specs.Laws.{low-some, groups-one, groups-more, length-one, length-more, pow-some}
 
