@@ -16,7 +16,7 @@ enum { AT_START = 1, AT_SESSION = 17, AT_COUNT = 33, AT_MODE = 35, AT_MARK = 36,
 enum { AT_LIVE = RECORD_OCTETS, AT_HEADER = 296, AT_NEXT = 298, AT_DRAWN = 314, AT_TOTAL = 572, AT_FED = 574, AT_FIRST = 576 };
 
 /* A tape's first octet, and the most groups that a carried length has. */
-enum { FIRST_OCTET = 1, MOST_GROUPS = 2 };
+enum { FIRST_OCTET = 1, MOST_GROUPS = 3 };
 
 /* Ends the program where OpenSSL does not do what it is asked. */
 static void need(bool held)
@@ -1067,15 +1067,15 @@ int oracle_tape_begin(buffer out)
    and how many they are. */
 static size_t groups_of(size_t length, octet groups[MOST_GROUPS])
 {
-    groups[0] = (octet)(length % 128);
-    groups[1] = (octet)(length / 128);
-    if (groups[1] == 0)
-        return 1;
-    groups[0] |= 0x80;
-    return 2;
+    size_t n = 0;
+
+    for (; length >= 128; length /= 128)
+        groups[n++] = (octet)(length % 128 + 128);
+    groups[n++] = (octet)length;
+    return n;
 }
 
-/* Write: "groups ..; then the packet. Lengths 6 to 1,502"; "writing another length is 1, before 2". */
+/* Write: "groups ..; then the packet"; lengths 6 to 32,002 (02, M-110), and "writing another length is 1, before 2". */
 tape_written oracle_tape_write(part packet, buffer out)
 {
     tape_written refused = {SHAPE, 0}, made = {DONE, 0};
@@ -1094,13 +1094,14 @@ tape_written oracle_tape_write(part packet, buffer out)
 }
 
 /* Read: "a missing or bad first octet is 1, then an offset of 0 or past the end 3, both with offset 0"; "at the end 0, no packet and
-   the same offset". The packet is looked for by its groups, those of every length that is carried: they stand at the offset, and have as
-   many octets behind them as they say. Where there is none, "other lengths, a longer form, a third group or a cut record are 1, with the
-   same offset". */
-tape_next oracle_tape_read(part tape, size_t offset)
+   the same offset". The packet is looked for by its groups, those of every length that is carried and that the tape has octets for: they
+   stand at the offset, and have as many octets behind them as they say. Where there is none, "other lengths, a longer form, .. or a cut
+   record are 1, with the same offset", and so is a group more than the longest length has. */
+tape_next oracle_tape_read_up_to(part tape, size_t offset, size_t longest)
 {
     tape_next result = {SHAPE, 0, 0};
     octet groups[MOST_GROUPS];
+    size_t left;
 
     if (tape.n == 0 || tape.at[0] != FIRST_OCTET)
         return result;
@@ -1109,13 +1110,20 @@ tape_next oracle_tape_read(part tape, size_t offset)
         return result;
     result.number = offset == tape.n ? DONE : SHAPE;
     result.start = result.offset = offset;
-    for (size_t length = SHORTEST_PACKET; length <= LONGEST_PACKET; length++) {
+    left = tape.n - offset;
+    for (size_t length = SHORTEST_PACKET; length <= longest && length < left; length++) {
         size_t n = groups_of(length, groups);
 
-        if (tape.n - offset >= n + length && memcmp(tape.at + offset, groups, n) == 0)
+        if (left - length >= n && memcmp(tape.at + offset, groups, n) == 0)
             return (tape_next){DONE, offset + n, offset + n + length};
     }
     return result;
+}
+
+/* "Sealed to 32,002"; "a fourth group is 1" (02, M-110). */
+tape_next oracle_tape_read(part tape, size_t offset)
+{
+    return oracle_tape_read_up_to(tape, offset, LONGEST_PACKET);
 }
 
 /* "A replay step answers 7, or what the read answers if that gives no packet, or else what open answers, then always with the offset

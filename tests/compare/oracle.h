@@ -47,10 +47,10 @@ enum {
     WALK_OCTETS = 577,
     RESET_REQUEST = 4,
     SHORTEST_PLAIN = 2,
-    LONGEST_PLAIN = 1498,
+    LONGEST_PLAIN = 31998,
     FRONT = 4,
     SHORTEST_PACKET = 6,
-    LONGEST_PACKET = 1502,
+    LONGEST_PACKET = 32002,
     LEAST_CHALLENGE = 21,
     LEAST_RESPONSE = 54,
     RC4_STATE = 258 /* the box and both indices */
@@ -156,6 +156,9 @@ int oracle_tape_begin(buffer out);
 tape_written oracle_tape_write(part packet, buffer out);
 tape_next oracle_tape_read(part tape, size_t offset);
 tape_replayed oracle_tape_replay(buffer record, part tape, size_t offset, buffer out);
+
+/* A read by a reader of packets up to a longest one: of 1,502 octets that of M-109, before M-110. */
+tape_next oracle_tape_read_up_to(part tape, size_t offset, size_t longest);
 
 /* The binding key. */
 int oracle_base_key(bool server, part send, part receive, octet out[BASE_KEY]);
