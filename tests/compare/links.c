@@ -1,6 +1,7 @@
 /* See links.h. */
 #include "links.h"
 
+#include <stdlib.h>
 #include <string.h>
 
 /* A number for a strength in bits, also one that is none. */
@@ -90,7 +91,7 @@ static void make_box(octets *record)
     octet state[RC4_STATE];
 
     oracle_rc4_keyed(key, state);
-    for (size_t draws = one_in(4) ? 0 : below(FRONT + LONGEST_PLAIN); draws > 0; draws--)
+    for (size_t draws = one_in(4) ? 0 : below(LINE_PACKET); draws > 0; draws--)
         oracle_rc4_draw(state);
     memcpy(record->at + AT_CELLS, state, CELLS);
     memcpy(record->at + AT_INDICES, state + CELLS, 2);
@@ -119,6 +120,16 @@ void make_right_record(octets *record)
     set_count(record, make_count());
     if (record->at[AT_MODE] == 1)
         make_box(record);
+}
+
+/* The record that both ends of a link begin with: a new link's, or one made by hand. */
+void make_start(octets *record, unsigned bits, bool stateful)
+{
+    make_begin(record, bits, stateful);
+    if (one_in(2))
+        do
+            make_right_record(record);
+        while (record->at[0] != bits || record->at[AT_MODE] != stateful);
 }
 
 /* A length that a record does not have: that of its front, one beside its own, none, or any. */
@@ -208,16 +219,46 @@ void make_record(octets *record)
         damage_record(record);
 }
 
-/* A plain packet: its protocol number mostly one that is carried, often at the limits. */
-void make_plain(octets *plain)
+/* Its protocol number is mostly one that is carried, often at the limits. */
+void make_plain_of(octets *plain, size_t n)
 {
     static const octet edges[] = {0x20, 0x21, 0xFA, 0xFB};
 
-    fill(plain, one_in(50) ? 0 : within(SHORTEST_PLAIN, LONGEST_PLAIN));
+    fill(plain, n);
     if (plain->n < SHORTEST_PLAIN)
         return;
     plain->at[0] = one_in(20) ? (octet)below(3) : 0;
     plain->at[1] = one_in(6) ? edges[below(4)] : one_in(20) ? (octet)below(256) : (octet)(0x21 + below(0xDA));
+}
+
+/* The length of a plain packet on a line, often at a limit; in the place of one more than a line has, one more than is carried. */
+static size_t make_line_length(void)
+{
+    size_t n = one_in(50) ? 0 : within(SHORTEST_PLAIN, LINE_PLAIN);
+
+    return n > LINE_PLAIN ? LONGEST_PLAIN + 1 : n;
+}
+
+/* The length of a long one: at a limit, also that of two groups for its sealed packet on a tape; one more; or any. */
+static size_t make_long_length(void)
+{
+    static const size_t limits[] = {
+        LINE_PLAIN, LINE_PLAIN + 1, LONGEST_IN_TWO - FRONT, LONGEST_IN_TWO - FRONT + 1, LONGEST_PLAIN, LONGEST_PLAIN + 1,
+    };
+
+    return one_in(2) ? limits[below(6)] : LINE_PLAIN + 1 + below(LONGEST_PLAIN - LINE_PLAIN);
+}
+
+/* Of such a length. */
+void make_line_plain(octets *plain)
+{
+    make_plain_of(plain, make_line_length());
+}
+
+/* Mostly as on a line. */
+void make_plain(octets *plain)
+{
+    make_plain_of(plain, one_in(8) ? make_long_length() : make_line_length());
 }
 
 /* The packet that a record's sender seals a distance after it. A stateful sender is in step with the record where that is the next one, and
@@ -266,13 +307,13 @@ void damage_arriving(const octets *record, octets *packet)
         packet->n = below(9);
         break;
     case 6:
-        fill(packet, below(1601));
+        fill(packet, below((one_in(8) ? LONGEST_PACKET : LINE_PACKET) + 99));
         break;
     case 7:
         packet->at[2] ^= BIT_A;
         break;
     default:
-        fill(packet, one_in(2) ? FRONT + LONGEST_PLAIN + below(3) : below(40));
+        fill(packet, one_in(2) ? LONGEST_PACKET + below(3) : below(40));
         memcpy(packet->at, "\x00\xFD\x90\x00", FRONT);
     }
 }
@@ -329,9 +370,13 @@ void take(octets *to, part from, size_t n)
     memcpy(to->at, from.at, to->n);
 }
 
-/* Octets behind others. */
+/* A list has room for MOST. */
 void append(octets *to, part p)
 {
+    if (p.n > MOST - to->n) {
+        printf("no room for %zu octets behind %zu\n", p.n, to->n);
+        exit(1);
+    }
     memcpy(to->at + to->n, p.at, p.n);
     to->n += p.n;
 }

@@ -10,7 +10,7 @@
 #include <string.h>
 #include <time.h>
 
-/* Packets for each case asked for, and at most; how many a few are; the most groups in front of a packet. */
+/* Packets for each case asked for, and at most; how many a few are; the most groups in front of a line's packet. */
 enum { FOR_EACH = 100, MOST_PACKETS = 100000, FEW = 5, GROUPS = 2 };
 
 /* The tape, its octets and how many they are; its packets, one behind the other, and at the same places what was sealed; how many
@@ -52,8 +52,8 @@ static unsigned make_lost(size_t k)
 static void seal_one(octet sender[RECORD_OCTETS], octets *plain, octet *packet)
 {
     do
-        make_plain(plain);
-    while (udukemb_seal(sender, RECORD_OCTETS, plain->at, plain->n, packet, LONGEST_PACKET) != DONE);
+        make_line_plain(plain);
+    while (udukemb_seal(sender, RECORD_OCTETS, plain->at, plain->n, packet, LINE_PACKET) != DONE);
 }
 
 /* Seals all packets, also those that are lost: the next one is sealed in the place of such a one. */
@@ -92,7 +92,7 @@ static double write_all(size_t room)
 /* What is written is what the oracle writes. */
 static void written_as_expected(void)
 {
-    octet record[GROUPS + LONGEST_PACKET];
+    octet record[GROUPS + LINE_PACKET];
     size_t offset = 1;
 
     demand(reel.at[0] == 1, "a long tape begins with another octet than 1");
@@ -131,7 +131,7 @@ static void opened_as_expected(size_t k, size_t at, int number, unsigned changes
 /* Replays it into one room. */
 static double replay_all(octet record[RECORD_OCTETS])
 {
-    octet plain[LONGEST_PLAIN];
+    octet plain[LINE_PLAIN];
     double from = now();
     size_t offset = 1;
 
@@ -149,7 +149,7 @@ static double replay_all(octet record[RECORD_OCTETS])
 /* Opens its packets in turn. */
 static double open_all(octet record[RECORD_OCTETS])
 {
-    octet plain[LONGEST_PLAIN];
+    octet plain[LINE_PLAIN];
     double from = now();
 
     memcpy(record, reel.begun.at, RECORD_OCTETS);
@@ -186,7 +186,7 @@ void compare_long_tape(unsigned long seed, unsigned long cases)
 
     start_steps(seed, LONG_TAPE);
     reel.count = cases < MOST_PACKETS / FOR_EACH ? FOR_EACH * cases : MOST_PACKETS;
-    room = 1 + reel.count * (GROUPS + LONGEST_PACKET);
+    room = 1 + reel.count * (GROUPS + LINE_PACKET);
     reel.at = room_of(room);
     reel.packets = room_of(room);
     reel.plains = room_of(room);

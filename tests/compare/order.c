@@ -17,7 +17,7 @@ enum { AHEAD, FARTHEST_AHEAD, NEWEST, BEHIND, FARTHEST_BEHIND, BEHIND_AGAIN, BEY
 /* A packet with its plain packet, of n octets, and the sender's record right after it was sealed. */
 typedef struct {
     size_t n;
-    octet plain[LONGEST_PLAIN], packet[FRONT + LONGEST_PLAIN], record[RECORD_OCTETS];
+    octet plain[LINE_PLAIN], packet[LINE_PACKET], record[RECORD_OCTETS];
 } sealed;
 
 /* The packets by their numbers, and the record that both ends begin with. */
@@ -64,7 +64,7 @@ static void open_ahead(long q)
     part plain = {line[q].plain, line[q].n};
     long ahead = q - receiver.newest;
 
-    open_call(&receiver.record, packet_of(q), one_in(4) ? LONGEST_PLAIN : plain.n + below(3));
+    open_call(&receiver.record, packet_of(q), one_in(4) ? LINE_PLAIN : plain.n + below(3));
     opened_as_sealed(&receiver.record, plain, line[q].record);
     demand(reported() == ahead, "an arrival reports other key changes than it is ahead");
     receiver.came[AHEAD]++;
@@ -75,7 +75,7 @@ static void open_ahead(long q)
 /* Every other is refused, the newest with 6 and one behind it with 10, also where no room is lent. */
 static void refuse_other(long q)
 {
-    refuse(&receiver.record, packet_of(q), one_in(4) ? 0 : LONGEST_PLAIN);
+    refuse(&receiver.record, packet_of(q), one_in(4) ? 0 : LINE_PLAIN);
     if (q == receiver.newest) {
         demand(given.number == REPEAT, "the newest come again is not refused with 6");
         receiver.came[NEWEST]++;
@@ -107,14 +107,14 @@ static void go_beyond(void)
 
     copy(&record, &receiver.record);
     if (ahead < PACKETS) {
-        refuse(&record, packet_of(ahead), LONGEST_PLAIN);
+        refuse(&record, packet_of(ahead), LINE_PLAIN);
         demand(given.number == LATE, "one too far ahead is not refused with 10");
         receiver.came[BEYOND_AHEAD]++;
     }
     if (behind >= 0) {
         refuse(&record, packet_of(behind), below(line[behind].n));
         demand(given.number == ROOM, "one too far behind is not refused with 2 where room is missing");
-        open_call(&record, packet_of(behind), LONGEST_PLAIN);
+        open_call(&record, packet_of(behind), LINE_PLAIN);
         demand(given.number == PROTOCOL || given.number == DONE, "one too far behind is not taken for one ahead");
         demand(reported() == (given.number == DONE ? FARTHEST : 0), "one too far behind reports other key changes than one ahead");
         receiver.came[BEYOND_BEHIND]++;

@@ -85,7 +85,7 @@ static void come_late(void)
 {
     if (run.held.n == 0 || run.behind > MOST_BEHIND || (run.behind < MOST_BEHIND && one_in(2)))
         return;
-    refuse(&run.receiver, &run.held, one_in(4) ? 0 : LONGEST_PLAIN);
+    refuse(&run.receiver, &run.held, one_in(4) ? 0 : LINE_PLAIN);
     demand(given.number == LATE, "a packet that comes late is not refused as late");
     run.late++;
 }

@@ -27,7 +27,7 @@ void start_steps(unsigned long seed, unsigned long stream)
     steps = (struct steps){.seed = seed};
 }
 
-/* Ends the program where a run does not go as demand 3, M-103 to M-105 and M-109 say. */
+/* Ends the program where a run does not go as demand 3, M-103 to M-105, M-109 and M-110 say. */
 void demand(bool held, const char *what)
 {
     if (held)
@@ -65,14 +65,20 @@ unsigned reported(void)
 }
 
 /* The room is too little now and then. */
+bool seals(octets *sender, const octets *plain, octets *packet)
+{
+    step(&seal_in_run, sender, plain, one_in(20) ? below(40) : FRONT + plain->n - one_in(20) + below(3));
+    if (given.number == DONE)
+        take(packet, part_of(&given.lent[1]), FRONT + plain->n);
+    return given.number == DONE;
+}
+
+/* Some plain packets are refused too. */
 void seal_call(octets *sender, octets *plain, octets *packet)
 {
-    do {
-        make_plain(plain);
-        step(&seal_in_run, sender, plain, one_in(20) ? below(40) : FRONT + plain->n - one_in(20) + below(3));
-    } while (given.number != DONE);
-    copy(packet, &given.lent[1]);
-    packet->n = FRONT + plain->n;
+    do
+        make_line_plain(plain);
+    while (!seals(sender, plain, packet));
 }
 
 /* One call on the walk: "Only a good end or a begin that answers 11 moves the link record or reports changes." */
@@ -211,19 +217,24 @@ static void as_one_call(const octets *receiver)
 }
 
 /* What the pieces gave is held against the one call. */
-void open_call(octets *receiver, const octets *packet, size_t room)
+void open_in_pieces(octets *receiver, const octets *packet, size_t room)
 {
     static octets out;
-    bool walked = one_in(WALKED);
 
     fill(&out, room);
-    if (walked) {
-        spoil(receiver, packet, room);
-        walk_packet(receiver, packet, &out);
-    }
+    spoil(receiver, packet, room);
+    walk_packet(receiver, packet, &out);
     step_into(&open_in_run, receiver, packet, &out);
-    if (walked)
-        as_one_call(receiver);
+    as_one_call(receiver);
+}
+
+/* Mostly the one call alone. */
+void open_call(octets *receiver, const octets *packet, size_t room)
+{
+    if (one_in(WALKED))
+        open_in_pieces(receiver, packet, room);
+    else
+        step(&open_in_run, receiver, packet, room);
 }
 
 /* The buffers at entry and at exit. */
@@ -241,13 +252,19 @@ void opened_as_sealed(const octets *receiver, part plain, const octet sender[REC
     demand(memcmp(sender, receiver->at, RECORD_OCTETS) == 0, "the records differ");
 }
 
-/* Nothing is reported either. */
+/* The record is that of the call. */
+void changed_nothing(const octets *record)
+{
+    demand(memcmp(asked.lent[0].at, record->at, RECORD_OCTETS) == 0, "a refused call changes the record");
+    demand(unwritten(0), "a refused call writes into the buffer");
+    demand(reported() == 0, "a refused call reports key changes");
+}
+
+/* In one call, and now and then in pieces. */
 void refuse(octets *receiver, const octets *packet, size_t room)
 {
     open_call(receiver, packet, room);
-    demand(memcmp(asked.lent[0].at, receiver->at, RECORD_OCTETS) == 0, "a refused call changes the record");
-    demand(unwritten(0), "a refused call writes into the buffer");
-    demand(reported() == 0, "a refused call reports key changes");
+    changed_nothing(receiver);
 }
 
 /* A call of open that the table refuses, but not with 11: a damaged packet, a repeat, or too little room. Of those with hundreds of key
@@ -255,7 +272,7 @@ void refuse(octets *receiver, const octets *packet, size_t room)
 static void refused_open(octets *receiver, const octets *packet)
 {
     static octets tried, record, out;
-    size_t room = one_in(8) ? 0 : one_in(8) ? data_of(packet, 0).n - 1 : LONGEST_PLAIN;
+    size_t room = one_in(8) ? 0 : one_in(8) ? data_of(packet, 0).n - 1 : LINE_PLAIN;
     unsigned distance;
     int number;
 

@@ -29,10 +29,13 @@ void step_into(const call *c, octets *record, const octets *input, octets *out);
 /* The key changes that the last call reports; none where it is a feed. */
 unsigned reported(void);
 
-/* Seal calls until one is not refused; its plain packet and its packet are kept. */
+/* A seal call: whether it is not refused, and then its packet. Seal calls of a line until one is not refused; its plain packet and its
+   packet are kept. */
+bool seals(octets *sender, const octets *plain, octets *packet);
 void seal_call(octets *sender, octets *plain, octets *packet);
 
-/* A call of open, with room lent; now and then the same packet in pieces before it. */
+/* A call of open, with room lent, and the same packet in pieces before it; a call of open that has these before it now and then. */
+void open_in_pieces(octets *receiver, const octets *packet, size_t room);
 void open_call(octets *receiver, const octets *packet, size_t room);
 
 /* Whether the last call left its buffer as it was, from an octet of it on. */
@@ -41,7 +44,8 @@ bool unwritten(size_t from);
 /* The last call of open opened a packet to what was sealed, and left the sender's record of then. */
 void opened_as_sealed(const octets *receiver, part plain, const octet sender[RECORD_OCTETS]);
 
-/* A call of open that must change nothing. */
+/* The last call changed neither record nor buffer, and reported nothing; a call of open of which that must hold. */
+void changed_nothing(const octets *record);
 void refuse(octets *receiver, const octets *packet, size_t room);
 
 /* Now and then some calls of open that the table refuses, beside a packet. */

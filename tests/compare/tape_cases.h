@@ -1,4 +1,4 @@
-/* Tapes made from a seed, whole and damaged in every way that M-109 names; and what came of them, counted. */
+/* Tapes made from a seed, whole and damaged in every way that M-109 and M-110 name; and what came of them, counted. */
 #ifndef TAPE_CASES_H
 #define TAPE_CASES_H
 
@@ -8,8 +8,9 @@
 void set_offset(test *t, size_t offset);
 size_t offset_of(const test *t);
 
-/* A length that a tape carries, often at a limit. */
+/* A length that a tape carries, often at a limit, and now and then a long one; and how many groups the shortest form of a length has. */
 size_t make_length(void);
+size_t shortest(size_t length);
 
 /* A packet to be written, and the room for its record: lengths at the limits, beside them and others, each with every kind of room in
    turn. */

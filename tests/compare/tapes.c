@@ -4,126 +4,17 @@
 #include "links.h"
 #include "steps.h"
 #include "tape_cases.h"
+#include "taping.h"
 #include "udukemb.h"
 
 #include <string.h>
 
-/* Lists written and read back; packets that a tape has at most; octets changed of each tape; tapes replayed in each mode at each
-   strength; and how many a few are. */
-enum { LISTS = 60, MOST_PACKETS = 40, CHANGES = 60, REPLAYS = 25, FEW = 5 };
-
-/* A list of packets, one behind the other; where each ends there, and where its record begins on the tape; and the tape. */
-static struct {
-    octets packets, tape;
-    size_t count, ends[MOST_PACKETS], records[MOST_PACKETS];
-} list;
+/* Lists written and read back; octets changed of each tape; tapes of all kinds; tapes replayed in each mode at each strength; and how
+   many a few are. */
+enum { LISTS = 60, CHANGES = 60, OF_KINDS = 400, REPLAYS = 25, FEW = 5 };
 
 /* What was compared. */
-static unsigned long written, changed, replayed;
-
-/* Packet k of the list. */
-static part packet_of(size_t k)
-{
-    size_t from = k == 0 ? 0 : list.ends[k - 1];
-    part p = {list.packets.at + from, list.ends[k] - from};
-
-    return p;
-}
-
-/* Empties the list. */
-static void clear_list(void)
-{
-    list.count = list.packets.n = 0;
-}
-
-/* Puts a packet behind it. */
-static void add_packet(const octets *packet)
-{
-    append(&list.packets, part_of(packet));
-    list.ends[list.count++] = list.packets.n;
-}
-
-/* A call that writes n octets, which go behind the tape; now and then one with too little room before it, which changes nothing. */
-static void write_on(const call *c, const octets *packet, size_t n)
-{
-    static octets rest;
-
-    if (one_in(8)) {
-        fill(&rest, below(n));
-        step(c, &rest, packet, 0);
-        demand(given.number == ROOM, "a tape is written into too little room");
-    }
-    fill(&rest, n + (one_in(2) ? 0 : below(40)));
-    step(c, &rest, packet, 0);
-    demand(given.number == DONE, "a tape is not written");
-    append(&list.tape, (part){rest.at, n});
-}
-
-/* Now and then a packet that no tape has, with any room. */
-static void write_other(void)
-{
-    static octets packet, rest;
-
-    if (!one_in(8))
-        return;
-    fill(&packet, one_in(2) ? below(SHORTEST_PACKET) : LONGEST_PACKET + 1 + below(100));
-    fill(&rest, room_for(packet.n + 2));
-    step(&tape_write_in_run, &rest, &packet, 0);
-    demand(given.number == SHAPE, "another length is written");
-}
-
-/* The list's tape: what the library writes is what the oracle writes into one buffer. */
-static void write_list(void)
-{
-    static octets own, packet;
-
-    fill(&own, MOST);
-    own.n = 1;
-    oracle_tape_begin(whole(&own));
-    list.tape.n = 0;
-    write_on(&tape_begin_in_run, &packet, 1);
-    for (size_t k = 0; k < list.count; k++) {
-        size_t n = oracle_tape_write(packet_of(k), (buffer){own.at + own.n, MOST - own.n}).length;
-
-        own.n += n;
-        list.records[k] = list.tape.n;
-        take(&packet, packet_of(k), MOST);
-        write_other();
-        write_on(&tape_write_in_run, &packet, n);
-        demand(size_at(given.fields.at) == n, "a record of another length is written");
-    }
-    demand(list.tape.n == own.n && memcmp(list.tape.at, own.at, own.n) == 0, "the tape is not the oracle's");
-    written++;
-}
-
-/* A read. */
-static tape_next read_at(const octets *tape, size_t offset)
-{
-    static octets nothing;
-
-    set_offset(&asked, offset);
-    step(&tape_read_in_run, &nothing, tape, 0);
-    return (tape_next){given.number, size_at(given.fields.at), size_at(given.fields.at + SIZE_OCTETS)};
-}
-
-/* Whether a part is packet k of the list. */
-static bool is_packet(size_t k, part p)
-{
-    return k < list.count && p.n == packet_of(k).n && memcmp(p.at, packet_of(k).at, p.n) == 0;
-}
-
-/* Reads a tape on to its end, or to a read that is refused. Whether it reads back to the list: each packet as a part of the tape, and
-   then 0 at the end. */
-static bool reads_back(const octets *tape)
-{
-    tape_next next = read_at(tape, 1);
-    bool all = true;
-    size_t k = 0;
-
-    for (; next.start < next.offset; next = read_at(tape, next.offset), k++)
-        all = is_packet(k, (part){tape->at + next.start, next.offset - next.start}) && all;
-    return all && k == list.count && next.number == DONE && next.offset == tape->n;
-}
+static unsigned long changed, replayed;
 
 /* Another octet: in one bit, any, or 0. */
 static octet make_other(octet was)
@@ -133,15 +24,23 @@ static octet make_other(octet was)
     return other == was ? was ^ 0x80 : other;
 }
 
-/* "Each list's tape, and no other, reads back to it": not with one octet changed, any of a short tape, or any or one of the first two
-   of a record. */
+/* An octet in front of a record of the list: one of its groups, or the packet's first. */
+static size_t make_front(void)
+{
+    size_t k = below(list.count);
+
+    return list.records[k] + below(shortest(packet_of(k).n) + 1);
+}
+
+/* "Each list's tape, and no other, reads back to it": not with one octet changed, any of a short tape, or any or one in front of a
+   record. */
 static void change_octets(void)
 {
     static octets other;
     size_t n = list.tape.n < CHANGES ? list.tape.n : CHANGES;
 
     for (size_t k = 0; k < n; k++) {
-        size_t at = n < CHANGES ? k : one_in(2) ? list.records[below(list.count)] + below(2) : below(list.tape.n);
+        size_t at = n < CHANGES ? k : one_in(2) ? make_front() : below(list.tape.n);
 
         copy(&other, &list.tape);
         other.at[at] = make_other(other.at[at]);
@@ -160,7 +59,7 @@ static void compare_lists(void)
 
         clear_list();
         for (size_t left = k < 3 ? k : below(one_in(4) ? MOST_PACKETS + 1 : FEW); left > 0; left--) {
-            fill(&packet, small ? SHORTEST_PACKET + below(FEW) : make_length());
+            fill(&packet, small ? SHORTEST_PACKET + below(FEW) : make_list_length());
             add_packet(&packet);
         }
         write_list();
@@ -171,13 +70,17 @@ static void compare_lists(void)
     }
 }
 
-/* "127 is 7F, 128 is 80 01, 1,502 is DE 0B"; and a length whose lower sixteen bits are 127 is none. */
+/* "127 is 7F, 128 is 80 01, 1,502 is DE 0B" (M-109), "16,384 is 80 80 01 and 32,002 is 82 FA 01" (M-110), so that the most in two groups
+   is FF 7F; and a length whose lower sixteen bits are 127 is none. */
 static void compare_printed(void)
 {
     static const struct {
         size_t length, n;
-        octet groups[2];
-    } printed[] = {{127, 1, {0x7F}}, {128, 2, {0x80, 0x01}}, {1502, 2, {0xDE, 0x0B}}};
+        octet groups[3];
+    } printed[] = {
+        {127, 1, {0x7F}}, {128, 2, {0x80, 0x01}}, {1502, 2, {0xDE, 0x0B}},
+        {16383, 2, {0xFF, 0x7F}}, {16384, 3, {0x80, 0x80, 0x01}}, {32002, 3, {0x82, 0xFA, 0x01}},
+    };
     static octets packet;
     static octet longer[65536 + 127];
 
@@ -190,6 +93,34 @@ static void compare_printed(void)
         demand(memcmp(list.tape.at + 1, printed[k].groups, printed[k].n) == 0, "a length is not written as printed");
     }
     demand(udukemb_tape_write(longer, sizeof longer, packet.at, MOST).answer == SHAPE, "a length of more than 16 bits is written");
+}
+
+/* Whether a reader of M-109 reads a tape from 1 on to its end. */
+static bool read_before(const octets *tape)
+{
+    tape_next next = oracle_tape_read_up_to(part_of(tape), 1, LINE_PACKET);
+
+    while (next.start < next.offset)
+        next = oracle_tape_read_up_to(part_of(tape), next.offset, LINE_PACKET);
+    return next.number == DONE;
+}
+
+/* Tapes of each kind, whole and damaged, read at the kind's offset, and from 1 on: those that were read to the end still are. */
+static void compare_kinds(void)
+{
+    static octets tape;
+
+    for (int k = 0; k < OF_KINDS; k++) {
+        size_t offset = make_tape(&tape);
+        tape_next next;
+
+        read_at(&tape, offset);
+        next = read_at(&tape, 1);
+        while (next.start < next.offset)
+            next = read_at(&tape, next.offset);
+        demand(next.number == DONE || !read_before(&tape), "a tape that was read to its end is refused");
+    }
+    demand(list.as_before > 0 && list.longer > 0, "no tape was read as before, or none with a longer packet");
 }
 
 /* Seals a packet, at a stateful sender often behind a Reset-Request. */
@@ -223,19 +154,9 @@ static void damage_packet(const octets *sender, octets *packet)
     default:
         copy(&whole_one, packet);
         damage_arriving(sender, packet);
-        if (packet->n < SHORTEST_PACKET || packet->n > LONGEST_PACKET)
+        if (packet->n < SHORTEST_PACKET || packet->n > LINE_PACKET)
             copy(packet, &whole_one);
     }
-}
-
-/* The record that both ends begin with: a new link's, or one made by hand. */
-static void make_start(octets *start, unsigned bits, bool stateful)
-{
-    make_begin(start, bits, stateful);
-    if (one_in(2))
-        do
-            make_right_record(start);
-        while (start->at[0] != bits || start->at[AT_MODE] != stateful);
 }
 
 /* What a line brings: packets in turn, some lost, repeated, late or damaged. */
@@ -257,18 +178,10 @@ static void make_arrivals(octets *sender)
     }
 }
 
-/* A step of the replay. Gives the offset after it. */
-static size_t replay_at(octets *record, size_t offset, octets *room)
-{
-    set_offset(&asked, offset);
-    step_into(&tape_replay_in_run, record, &list.tape, room);
-    return size_at(given.fields.at + 2);
-}
-
 /* A step that is refused, with the offset 0. */
 static void refuse_step(octets *record, size_t offset, octets *room, int number)
 {
-    demand(replay_at(record, offset, room) == 0, "a refused step has another offset than 0");
+    demand(replay_at(record, &list.tape, offset, room) == 0, "a refused step has another offset than 0");
     demand(given.number == number && reported() == 0, "a step is refused with another number, or reports key changes");
 }
 
@@ -295,7 +208,7 @@ static void replay_nothing(octets *record, octets *room)
     copy(&same_record, record);
     copy(&same_room, room);
     for (int k = 0; k < 2; k++) {
-        demand(replay_at(record, list.tape.n, room) == list.tape.n, "a step at the end moves the offset");
+        demand(replay_at(record, &list.tape, list.tape.n, room) == list.tape.n, "a step at the end moves the offset");
         demand(given.number == DONE && reported() == 0, "a step at the end answers another number than 0, or reports key changes");
     }
     refuse_step(record, 0, room, SIZE);
@@ -314,24 +227,24 @@ static void replay_list(const octets *start)
 
     copy(&record, start);
     copy(&fed_record, start);
-    fill(&room, LONGEST_PLAIN);
+    fill(&room, LINE_PLAIN);
     copy(&fed_room, &room);
     for (size_t k = 0; k < list.count; k++) {
         int number;
         unsigned changes;
 
         take(&packet, packet_of(k), MOST);
-        room.n = fed_room.n = one_in(8) ? below(data_of(&packet, 0).n) : LONGEST_PLAIN;
+        room.n = fed_room.n = one_in(8) ? below(data_of(&packet, 0).n) : LINE_PLAIN;
         if (one_in(8))
             replay_nothing(&record, &room);
         demand(offset == list.records[k], "a step does not give the offset after its packet");
-        offset = replay_at(&record, offset, &room);
+        offset = replay_at(&record, &list.tape, offset, &room);
         number = given.number;
         changes = reported();
         step_into(&open_in_run, &fed_record, &packet, &fed_room);
         demand(number == given.number && changes == reported(), "a step answers or reports another number than open");
         demand(memcmp(record.at, fed_record.at, RECORD_OCTETS) == 0, "a step leaves another record than open");
-        demand(memcmp(room.at, fed_room.at, LONGEST_PLAIN) == 0, "a step opens to other octets than open");
+        demand(memcmp(room.at, fed_room.at, LINE_PLAIN) == 0, "a step opens to other octets than open");
         replayed++;
     }
     demand(offset == list.tape.n, "a replay does not come to the end");
@@ -353,17 +266,20 @@ static void compare_replays(unsigned bits, bool stateful)
     }
 }
 
-/* Lists, and replays in each mode at each strength. */
+/* Lists, kinds, and replays in each mode at each strength. */
 unsigned long compare_tapes(unsigned long seed)
 {
     start_steps(seed, TAPES);
+    memset(&list, 0, sizeof list);
     compare_printed();
     compare_lists();
+    compare_kinds();
     for (unsigned k = 0; k < 3; k++) {
         compare_replays(strength_bits(k), false);
         compare_replays(strength_bits(k), true);
     }
-    printf("tapes: %lu calls, all equal; %lu written, %lu changed in an octet, %lu packets replayed\n", steps.calls, written, changed,
-           replayed);
+    printf("tapes: %lu calls, all equal; %lu written, %lu changed in an octet, %lu reads as before and %lu of longer packets, "
+           "%lu packets replayed\n",
+           steps.calls, list.written, changed, list.as_before, list.longer, replayed);
     return steps.calls;
 }
