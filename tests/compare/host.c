@@ -1,9 +1,10 @@
 /* The large comparison of the calls that a C host makes: cases from a seed, answered by the oracle and by the library through
-   include/udukemb.h; then whole runs of a link in each mode (runs.h), packets in any order (order.h), tapes (tapes.h)
-   and a long one (long_tape.h). Arguments: the seed, and how many cases for each call. */
+   include/udukemb.h; then whole runs of a link in each mode (runs.h), packets in any order (order.h), long ones (long_packets.h), tapes
+   (tapes.h) and a long one (long_tape.h). Arguments: the seed, and how many cases for each call. */
 #include "guard.h"
 #include "host.h"
 #include "links.h"
+#include "long_packets.h"
 #include "long_tape.h"
 #include "order.h"
 #include "runs.h"
@@ -693,7 +694,7 @@ static void every_number_came(void)
     }
 }
 
-/* Compares every call, then runs of a link in each mode, packets in any order, and tapes. */
+/* Compares every call, then runs of a link in each mode, packets in any order, long ones, and tapes. */
 int main(int count, char **words)
 {
     unsigned long seed, cases, total;
@@ -706,6 +707,7 @@ int main(int count, char **words)
     total += compare_runs(seed, cases, false);
     total += compare_runs(seed, cases, true);
     total += compare_order(seed);
+    total += compare_long_packets(seed);
     total += compare_tapes(seed);
     compare_long_tape(seed, cases);
     every_number_came();

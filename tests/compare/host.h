@@ -10,8 +10,8 @@ enum {
     BEGIN, FEED, END, RESET, WRITE_RESET, TAPE_BEGIN, TAPE_WRITE, TAPE_READ, TAPE_REPLAY, CALLS
 };
 
-/* The streams behind those: of the runs in each mode, of packets in any order, of tapes, and of a long one. */
-enum { STATELESS_RUNS = CALLS, STATEFUL_RUNS, ANY_ORDER, TAPES, LONG_TAPE };
+/* The streams behind those: of the runs in each mode, of packets in any order, of tapes, of a long one, and of long packets. */
+enum { STATELESS_RUNS = CALLS, STATEFUL_RUNS, ANY_ORDER, TAPES, LONG_TAPE, LONG_PACKETS };
 
 extern const call seal_in_run, open_in_run, begin_in_run, feed_in_run, end_in_run, reset_in_run, write_reset_in_run;
 extern const call tape_begin_in_run, tape_write_in_run, tape_read_in_run, tape_replay_in_run;
