@@ -22,12 +22,13 @@ static struct {
     unsigned long came[MODES][STRENGTHS][LENGTHS];
 } ends;
 
-/* Seal calls with plain packets of a length until one is not refused. */
+/* Seal calls with plain packets of a length that is carried, until one is not refused. */
 static void seal_of(octets *sender, size_t n, octets *plain, octets *packet)
 {
-    do
+    do {
         make_plain_of(plain, n);
-    while (!seals(sender, plain, packet));
+        demand(seals(sender, plain, packet) || given.number != SIZE, "a plain packet of a length that is carried is refused with 3");
+    } while (given.number != DONE);
 }
 
 /* Seals a plain packet of a length, behind a few that are lost where the mode allows it. Gives the key changes that it brings. */
@@ -41,12 +42,15 @@ static unsigned seal_long(size_t n)
     return lost + changes_with(ends.sender.at, ends.packet.at[3]);
 }
 
-/* It is opened in pieces and in one call, with the key changes that it brings; come again it is refused with 6, and the one before it
-   with 10. */
+/* It is opened in pieces and in one call, with the key changes that it brings, but not into an octet too little; come again it is refused
+   with 6, and the one before it with 10. */
 static void open_long(unsigned changes)
 {
     unsigned long walked = steps.walked;
 
+    open_in_pieces(&ends.receiver, &ends.packet, ends.plain.n - 1);
+    demand(given.number == ROOM, "a long packet is opened into too little room");
+    changed_nothing(&ends.receiver);
     open_in_pieces(&ends.receiver, &ends.packet, ends.plain.n + below(3));
     opened_as_sealed(&ends.receiver, part_of(&ends.plain), ends.sender.at);
     demand(reported() == changes, "a long packet reports other key changes than it brings");
@@ -60,7 +64,7 @@ static void open_long(unsigned changes)
     copy(&ends.last, &ends.packet);
 }
 
-/* It is written to a tape, read back, and replayed from the record that it was opened with. */
+/* It is written to a tape, read back, and replayed from the record that it was opened with, also not into an octet too little. */
 static void tape_long(octets *record)
 {
     static octets room;
@@ -69,6 +73,10 @@ static void tape_long(octets *record)
     add_packet(&ends.packet);
     write_list();
     demand(reads_back(&list.tape), "the tape of a long packet does not read back to it");
+    fill(&room, ends.plain.n - 1);
+    demand(replay_at(record, &list.tape, 1, &room) == list.tape.n, "a refused step does not give the offset after a long packet");
+    demand(given.number == ROOM, "a long packet is replayed into too little room");
+    changed_nothing(record);
     fill(&room, ends.plain.n + below(3));
     demand(replay_at(record, &list.tape, 1, &room) == list.tape.n, "a step does not give the offset after a long packet");
     opened_as_sealed(record, part_of(&ends.plain), ends.sender.at);
@@ -96,6 +104,23 @@ static void refuse_plain(size_t n)
     changed_nothing(&ends.sender);
 }
 
+/* A walk that is begun with a packet, but has a total that is too long, is 7 for a feed and for an end. */
+static void refuse_walk(const octets *packet, size_t n)
+{
+    static octets walk, piece;
+
+    fill(&walk, WALK_OCTETS);
+    memcpy(walk.at, ends.receiver.at, RECORD_OCTETS);
+    demand(oracle_begin(whole(&walk), front_of(packet), n - 1, n).number == DONE, "a walk of the longest packet is not begun");
+    walk.at[AT_TOTAL] = (octet)(n / 256);
+    walk.at[AT_TOTAL + 1] = (octet)(n % 256);
+    take(&piece, data_of(packet, 0), make_cut(n - 1));
+    step(&feed_in_run, &walk, &piece, n);
+    demand(given.number == RECORD, "a piece is fed to a walk whose total is too long");
+    step(&end_in_run, &walk, &piece, n);
+    demand(given.number == RECORD, "a walk whose total is too long ends");
+}
+
 /* A sealed packet that is too long, 32,003 octets, is not written to a tape. On one that has it all the same, behind the octet 1 and its
    groups, it is not read, and no step comes behind it. */
 static void refuse_taped(const octets *packet)
@@ -117,7 +142,8 @@ static void refuse_taped(const octets *packet)
     changed_nothing(&record);
 }
 
-/* What is too long is refused by every call: a plain packet, and a sealed one which would be the next but for its last octet. */
+/* What is too long is refused by every call: a plain packet, a walk's total, and a sealed packet which would be the next but for its last
+   octet. */
 static void refuse_long(size_t n)
 {
     static octets sender, plain, packet;
@@ -125,6 +151,7 @@ static void refuse_long(size_t n)
     refuse_plain(n);
     copy(&sender, &ends.sender);
     seal_of(&sender, n - 1, &plain, &packet);
+    refuse_walk(&packet, n);
     append(&packet, (part){plain.at, 1});
     open_in_pieces(&ends.receiver, &packet, n);
     demand(given.number == SHAPE, "a packet that is too long is not refused with 1, in one call and in pieces");

@@ -8,11 +8,12 @@
 /* With so many cases for each call, each kind's turn comes. */
 enum { ENOUGH = 100 };
 
-/* What there is at the offset of a read. The tapes of the last four, from CUT_GROUPS on, end with the record. */
+/* What there is at the offset of a read. The tapes of the last five, from CUT_GROUPS on, end with the record. */
 enum {
     NO_OCTET, OTHER_FIRST, OFFSET_0, PAST_BY_ONE, PAST_FAR, PAST_MOST, AT_END, END_OF_NONE, TOO_SHORT, TOO_LONG_BY_ONE, TOO_LONG,
-    TWO_FOR_ONE, THREE_FOR_FEWER, MORE_GROUPS, FOURTH_GROUP, LENGTH_6, LENGTH_127, LENGTH_128, LENGTH_1502, LENGTH_1503, LENGTH_16383,
-    LENGTH_16384, LENGTH_32002, ONE_GROUP, TWO_GROUPS, THREE_GROUPS, NOISE, CUT_GROUPS, CUT_BY_ONE, CUT_PACKET, WITHIN, KINDS
+    TWO_FOR_ONE, THREE_FOR_FEWER, FOUR_FOR_THREE, MORE_GROUPS, FOURTH_GROUP, LENGTH_6, LENGTH_127, LENGTH_128, LENGTH_1502, LENGTH_1503,
+    LENGTH_16383, LENGTH_16384, LENGTH_32002, ONE_GROUP, TWO_GROUPS, THREE_GROUPS, NOISE, CUT_GROUPS, CUT_BY_ONE, CUT_LONG, CUT_PACKET,
+    WITHIN, KINDS
 };
 
 /* The most octets that stand behind the groups of a record that is too long, and how many numbers three groups can say. */
@@ -40,6 +41,7 @@ static const struct {
     [TOO_LONG] = {"a length above it", SHAPE, STAYS, 0},
     [TWO_FOR_ONE] = {"a longer form in two groups", SHAPE, STAYS, 0},
     [THREE_FOR_FEWER] = {"a longer form in three", SHAPE, STAYS, 0},
+    [FOUR_FOR_THREE] = {"a fourth group of 0", SHAPE, STAYS, 0},
     [MORE_GROUPS] = {"a longer form in more", SHAPE, STAYS, 0},
     [FOURTH_GROUP] = {"a fourth group", SHAPE, STAYS, 0},
     [LENGTH_6] = {"a packet of 6", DONE, BEHIND, 6},
@@ -56,6 +58,7 @@ static const struct {
     [NOISE] = {"any octets", DONE, ANYWHERE, 0},
     [CUT_GROUPS] = {"cut in the groups", SHAPE, STAYS, 0},
     [CUT_BY_ONE] = {"cut by an octet", SHAPE, STAYS, 0},
+    [CUT_LONG] = {"three groups cut by an octet", SHAPE, STAYS, 0},
     [CUT_PACKET] = {"cut by more", SHAPE, STAYS, 0},
     [WITHIN] = {"within a record", DONE, ANYWHERE, 0},
 };
@@ -206,6 +209,8 @@ static size_t kind_length(int kind)
     case THREE_FOR_FEWER:
         return make_grouped(one_in(2) ? 1 : 2);
     case THREE_GROUPS:
+    case FOUR_FOR_THREE:
+    case CUT_LONG:
         return make_grouped(3);
     case MORE_GROUPS:
     case FOURTH_GROUP:
@@ -225,6 +230,8 @@ static size_t kind_groups(int kind, size_t length)
         return 2;
     case THREE_FOR_FEWER:
         return 3;
+    case FOUR_FOR_THREE:
+        return 4;
     case MORE_GROUPS:
         return 4 + (one_in(2) ? 0 : below(9));
     case CUT_GROUPS:
@@ -241,6 +248,7 @@ static size_t kind_cut(int kind, size_t length)
     case CUT_GROUPS:
         return length + 1;
     case CUT_BY_ONE:
+    case CUT_LONG:
         return 1;
     case CUT_PACKET:
         return 2 + below(length - 1);
