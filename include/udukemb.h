@@ -59,9 +59,9 @@
 #include <stdint.h>
 
 /*
- * The version of this interface: a new major number may break a program, a new minor one adds to it. From 3.2 to 4.0 the
- * longest packet went from 1,502 octets to 32,002: a call that is lent a buffer of the old length refuses a longer one
- * with 2, but a program must not copy a packet that `udukemb_tape_read` finds into such a buffer.
+ * The version of this interface: a new major number may break a program, a new minor one adds to it. From 3.2 to 4.0
+ * the longest packet went from 1,502 octets to 32,002: a call that is lent a buffer of the old length refuses a longer
+ * one with 2, but a program must not copy a packet that `udukemb_tape_read` finds into such a buffer.
  */
 #define UDUKEMB_VERSION_MAJOR 4
 #define UDUKEMB_VERSION_MINOR 0
@@ -417,10 +417,10 @@ UDUKEMB_MUST_USE struct udukemb_opened udukemb_end(
  *
  * A tape is the octet 1, and then a record for each packet: the packet's length, and the packet. The length, 6 to
  * 32,002, stands in groups of seven bits, lowest first, with the top bit of an octet set when more follows, in the
- * shortest form only: 127 is 7F, 128 is 80 01, 1,502 is DE 0B, 16,384 is 80 80 01 and 32,002 is 82 FA 01. Nothing closes
- * a tape, so one more packet is written behind the last, and a tape of no packets is the octet 1 alone. Every tape reads
- * back to the list of packets that it was written of, and no other octets read back to that list. A tape of a version
- * before 4.0, whose packets have at most 1,502 octets, reads as it did.
+ * shortest form only: 127 is 7F, 128 is 80 01, 1,502 is DE 0B, 16,384 is 80 80 01 and 32,002 is 82 FA 01. Nothing
+ * closes a tape, so one more packet is written behind the last, and a tape of no packets is the octet 1 alone. Every
+ * tape reads back to the list of packets that it was written of, and no other octets read back to that list. A tape of
+ * a version before 4.0, whose packets have at most 1,502 octets, reads as it did.
  *
  * An offset is UDUKEMB_TAPE_START, or one that a read or a step handed out. Keep to these: any other that lies inside a
  * record is taken as it stands, so that octets of a packet are read as a length, and what follows as a packet.
