@@ -282,7 +282,7 @@ static size_t record_line(const char *file, FILE *to, struct line *line)
     return packets;
 }
 
-/* Seals a text of points in a plain packet of n octets. */
+/* Seals a plain packet of n octets: a text, and points behind it. */
 static uint8_t seal_long(uint8_t sender[UDUKEMB_LINK_RECORD], size_t number, size_t n, uint8_t packet[UDUKEMB_LONGEST_PACKET])
 {
     static uint8_t plain[UDUKEMB_LONGEST_PLAIN + 1] = { 0x00, 0x21 };
