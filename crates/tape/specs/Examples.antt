@@ -13,7 +13,7 @@ use Rattle.tape.specs.Replay.{Step, stepOf, held, replayStep, replay}
 abbrev Stands : ℕ → List ℕ → Type 0
 Stands n l = (groups mostGroups n ≡ l) × (lengthIn mostGroups l ≡ n)
 
--- "127 is 7F, 128 is 80 01, 1,502 is DE 0B"; "16,384 is 80 80 01 and 32,002 is 82 FA 01", and the length before it
+-- "127 is 7F, 128 is 80 01, 1,502 is DE 0B"; "16,384 is 80 80 01 and 32,002 is 82 FA 01"; and 16,383, the last in two groups
 pub lengths :
     Stands 127 (0x7F ∷ []) × Stands 128 (0x80 ∷ 0x01 ∷ []) × Stands 1502 (0xDE ∷ 0x0B ∷ []) × Stands 16383 (0xFF ∷ 0x7F ∷ [])
     × Stands 16384 (0x80 ∷ 0x80 ∷ 0x01 ∷ []) × Stands 32002 (0x82 ∷ 0xFA ∷ 0x01 ∷ [])
