@@ -1,6 +1,7 @@
 /*
- * Udukemb for C: MS-CHAPv2 responses and checks, MPPE start keys, the MPPE option, a link's packets, tapes of packets,
- * and the SSTP binding key. Link with libudukemb.a, for x86-64 Linux; it needs nothing but memcpy and memset.
+ * Udukemb for C: MS-CHAPv2 responses and checks, MPPE start keys, the MPPE option, a link's packets, tapes of packets
+ * and marks beside them, and the SSTP binding key. Link with libudukemb.a, for x86-64 Linux; it needs nothing but
+ * memcpy and memset.
  *
  * Every call
  *   - takes any octets of any length. A lent part is a pointer and its length in octets; a part of length 0 may have a
@@ -64,7 +65,7 @@
  * one with 2, but a program must not copy a packet that `udukemb_tape_read` finds into such a buffer.
  */
 #define UDUKEMB_VERSION_MAJOR 4
-#define UDUKEMB_VERSION_MINOR 0
+#define UDUKEMB_VERSION_MINOR 1
 
 /* A call whose answer is not looked at is warned of, where the compiler can. */
 #if defined(__GNUC__)
@@ -119,8 +120,12 @@ enum {
     UDUKEMB_SHORTEST_PACKET = 6,
     UDUKEMB_LONGEST_PACKET = 32002,
     UDUKEMB_TAPE_START = 1,             /* what stands in front of a tape's records, and so the first one's offset */
-    UDUKEMB_LONGEST_TAPE_RECORD = 32005 /* a packet's length, one to three octets, and the packet */
+    UDUKEMB_LONGEST_TAPE_RECORD = 32005, /* a packet's length, one to three octets, and the packet */
+    UDUKEMB_MARK = 51
 };
+
+/* A mark is kept behind each packet whose number among those opened is a multiple of this. */
+enum { UDUKEMB_MARK_EVERY = 256 };
 
 /* A check's answer. `yes` is true exactly if the answer is 0 and every octet received is the one worked out here. */
 struct udukemb_check {
@@ -161,6 +166,21 @@ struct udukemb_replayed {
     uint8_t answer;
     uint16_t changes; /* as in udukemb_opened */
     size_t offset;    /* as in udukemb_next */
+};
+
+/* A read mark's answer. Where it is not 0, `opened` and `offset` are 0. */
+struct udukemb_mark {
+    uint8_t answer;
+    uint64_t opened; /* how many packets of the tape were opened */
+    size_t offset;   /* the offset that follows */
+};
+
+/* A check of marks' answer. Where it is not 0, `yes` is false and `agreeing` 0. */
+struct udukemb_marks_checked {
+    uint8_t answer;
+    bool yes;        /* they are the marks that a walk from the start gives, all of them and nothing else */
+    size_t agreeing; /* how many are right from the first on; on a no, the first mark that is wrong, lacking or too many
+                        comes next */
 };
 
 /*
@@ -472,6 +492,58 @@ UDUKEMB_MUST_USE struct udukemb_replayed udukemb_tape_replay(
     const uint8_t *tape, size_t tape_len,
     size_t offset,
     uint8_t *out, size_t out_len);
+
+/*
+ * Marks beside a tape. A long tape of a stateless link need not be replayed from its start: keep a list of marks beside
+ * it. A mark stands behind each 256th opened packet, also where that is the tape's last: how many packets were opened,
+ * the tape offset that follows, and the link record. Only packets that answer 0 are counted; the offset moves over
+ * refused ones too. So mark number i, from 0 on, stands behind packet number 256 * (i + 1) of those opened, and mark i
+ * of a list is its 51 octets from 51 * i on.
+ *
+ * A mark is 51 octets, numbers highest octet first: opened 8, offset 8, strength in bits 1, start key 16, session key
+ * 16, last count 2. A list is its marks one behind the other, and nothing else.
+ *
+ * Check a list that was kept before you open from it. Where the check says yes, each mark of the list reads with answer
+ * 0, and steps of `udukemb_tape_replay` from its offset with its record, into a buffer of UDUKEMB_LONGEST_PLAIN octets,
+ * give the same packets, refusals and end record as the steps from the start give behind that point. A check is a walk
+ * over the whole tape, once; opening from a mark then reads no octet of the tape before it but the first.
+ *
+ * A mark holds keys. Keep a list as secret as the link record.
+ */
+
+/*
+ * Writes the list of a tape's marks into `out`; `link_record` is the record that the tape begins with. A buffer of one
+ * octet for every 35 of the tape always has room.
+ * Lengths: record 295, exactly.
+ * Answers: 7 record, `link_record` is not 295 octets that hold a well formed record, or its link is stateful; 1 shape,
+ * as for `udukemb_tape_read`, the tape is faulty; 2 room, `out` is shorter than the list.
+ */
+UDUKEMB_MUST_USE struct udukemb_written udukemb_marks_write(
+    const uint8_t *link_record, size_t link_record_len,
+    const uint8_t *tape, size_t tape_len,
+    uint8_t *out, size_t out_len);
+
+/*
+ * Reads a mark: gives its two numbers, and writes its link record into `link_record`. What is in the record is not held
+ * against any tape; `udukemb_marks_check` does that.
+ * Lengths: mark 51.
+ * Answers: 3 size, `mark` has another length; 7 record, its strength is none of 40, 56 and 128, or its record is not
+ * well formed; 2 room, `link_record` has fewer than 295 octets.
+ */
+UDUKEMB_MUST_USE struct udukemb_mark udukemb_marks_read(
+    const uint8_t *mark, size_t mark_len,
+    uint8_t *link_record, size_t link_record_len);
+
+/*
+ * Whether `marks` is the list of a tape's marks; `link_record` is the record that the tape begins with. A difference
+ * is a no with answer 0, and so is a list that is no multiple of 51 octets.
+ * Lengths: record 295, exactly.
+ * Answers: 7 record and 1 shape, as for `udukemb_marks_write`.
+ */
+UDUKEMB_MUST_USE struct udukemb_marks_checked udukemb_marks_check(
+    const uint8_t *link_record, size_t link_record_len,
+    const uint8_t *tape, size_t tape_len,
+    const uint8_t *marks, size_t marks_len);
 
 #ifdef __cplusplus
 }

@@ -62,11 +62,15 @@ unfolding boxFits
 unkeyed-fits Stateless = rw (unkeyed-permutation unkeyed unkeyed-found, unkeyed-found)
 unkeyed-fits Stateful = rw (unkeyed-permutation unkeyed unkeyed-found)
 
--- the box and the mark of a well-formed record, and the mark of a stateless one
+-- the box and the mark of a well-formed record, and those of a stateless one
 pub well-box : (l : Link) → wellFormed l ≡ true → boxFits (l .mode) (l .state) (l .waiting) ≡ true
 unfolding wellFormed
 well-box l h =
     both (ltb (l .count) counts && zeros (drop (keyLength (l .strength)) (l .start)) && zeros (drop (keyLength (l .strength)) (l .session)) && begins (headOf (l .strength)) (l .session)) (boxFits (l .mode) (l .state) (l .waiting)) h .1
+
+pub fits-unkeyed : (state : Rc4) (mark : Bool) → boxFits Stateless state mark ≡ true → isUnkeyed state ≡ true
+unfolding boxFits
+fits-unkeyed state mark h = both (isUnkeyed state) (not mark) (both (permutation (state .cells)) (isUnkeyed state && not mark) h .1) .0
 
 pub fits-unmarked : (mode : Mode) (state : Rc4) (mark : Bool) → mode ≡ Stateless → boxFits mode state mark ≡ true → mark ≡ false
 unfolding boxFits

@@ -12,13 +12,15 @@ use Rattle.answer.specs.Answer.{done}
 use Rattle.octets.specs.Octets.{written, writtenAt}
 use Rattle.octets.specs.Laws.{append-more}
 use Rattle.rc4.specs.declared.Rc4.{Rc4}
+use Rattle.rc4.specs.Cipher.{unkeyed}
 use Rattle.mppe_keys.specs.declared.Strength.{Strength}
 use Rattle.mppe_keys.specs.declared.Mode.{Mode}
+use Rattle.mppe_keys.specs.declared.Mode.the-variants.{Stateless}
 use Rattle.mppe_keys.specs.declared.Strength.the-variants.{Bits40, Bits56, Bits128}
 use Rattle.mppe_keys.specs.Keys.{bitsOf, byMode, modeIf}
 use Rattle.mppe.specs.declared.Link.{Link}
 use Rattle.mppe_record.specs.declared.RecordRead.{RecordRead}
-use Rattle.mppe_record.specs.Record.{strengthOf, noStrength, yesNumber, frontOctets, restOctets, recordLength, recordOctets, recordIn, noRecord, recordRead}
+use Rattle.mppe_record.specs.Record.{strengthOf, noStrength, yesNumber, frontOctets, restOctets, recordLength, recordOctets, frontIn, recordIn, noRecord, recordRead, frontLength, statelessIn, statelessRead}
 use Rattle.mppe_record.specs.Inner.{stateIn}
 use Rattle.mppe_record.specs.Laws.{two-octets, Sized, frontOctets-length}
 
@@ -62,17 +64,35 @@ unfolding recordRead
 held octets h en e hm hk el =
     rw (eq-eqb (length octets) recordLength h, sym en ∙ e, le-ltb 1 (getD octets 35 0) hm, le-ltb 1 (getD octets 36 0) hk, el)
 
+-- the record of which octets hold the first 35
+pub front-read : {s : Strength} {start session : List ℕ} {count : ℕ} (octets : List ℕ) (mode : Mode) (state : Rc4) (mark : Bool) → s ≡ strengthOf (getD octets 0 0)
+    → start ≡ take 16 (drop 1 octets) → session ≡ take 16 (drop 17 octets) → count ≡ getD octets 33 0 * 256 + getD octets 34 0
+    → _≡_ {A = Link} (record { strength = s; mode = mode; start = start; session = session; count = count; state = state; waiting = mark }) (frontIn octets mode state mark)
+front-read octets mode state mark es eb ek ec = rw (es, eb, ek, ec)
+
 -- the record in 295 octets
-pub record-read : {s : Strength} {mode : Mode} {start session : List ℕ} {count : ℕ} {state : Rc4} (octets : List ℕ) → length octets ≡ recordLength
-    → s ≡ strengthOf (getD octets 0 0) → mode ≡ modeIf (eqb (getD octets 35 0) 1) → start ≡ take 16 (drop 1 octets) → session ≡ take 16 (drop 17 octets)
-    → count ≡ getD octets 33 0 * 256 + getD octets 34 0 → state ≡ stateIn (take (length octets - 37) (drop 37 octets))
-    → _≡_ {A = Link}
-    (record { strength = s; mode = mode; start = start; session = session; count = count; state = state; waiting = eqb (getD octets 36 0) 1 }) (recordIn octets)
+pub record-read : {l : Link} {mode : Mode} {state : Rc4} (octets : List ℕ) → length octets ≡ recordLength → mode ≡ modeIf (eqb (getD octets 35 0) 1)
+    → state ≡ stateIn (take (length octets - 37) (drop 37 octets)) → l ≡ frontIn octets mode state (eqb (getD octets 36 0) 1) → l ≡ recordIn octets
 unfolding recordIn stateIn
-record-read octets h es em eb ek ec et =
+record-read octets h em et el =
     let all : take (length octets - 37) (drop 37 octets) ≡ drop 37 octets = take-all (length octets - 37) (drop 37 octets) (omega (arith, length-drop 37 octets)) in
     let cells : drop 2 (drop 37 octets) ≡ take 256 (drop 39 octets) = drop-drop 2 37 octets ∙ sym (take-all 256 (drop 39 octets) (omega (arith, length-drop 39 octets))) in
-    rw (es, em, eb, ek, ec, et, all, cells, getD-drop 37 octets 0 0, getD-drop 37 octets 1 0)
+    rw (el, em, et, all, cells, getD-drop 37 octets 0 0, getD-drop 37 octets 1 0)
+
+-- octets that hold no stateless record, by their number and their first, and octets that hold one
+pub not-front : {r : RecordRead} (octets : List ℕ) → (length octets ≡ frontLength → ⊥) → r ≡ noRecord → r ≡ statelessRead octets
+unfolding statelessRead
+not-front octets h e = e ∙ rw (ne-eqb (length octets) frontLength h)
+
+pub front-not-strong : {r : RecordRead} {none : Bool} (octets : List ℕ) → length octets ≡ frontLength → none ≡ noStrength (getD octets 0 0) → none ≡ true
+    → r ≡ noRecord → r ≡ statelessRead octets
+unfolding statelessRead
+front-not-strong octets h en e er = er ∙ rw (eq-eqb (length octets) frontLength h, sym en ∙ e)
+
+pub front-held : {l : Link} {none : Bool} {state : Rc4} (octets : List ℕ) → length octets ≡ frontLength → none ≡ noStrength (getD octets 0 0) → none ≡ false
+    → state ≡ unkeyed → l ≡ frontIn octets Stateless state false → _≡_ {A = RecordRead} (record { answer = done; link = l }) (statelessRead octets)
+unfolding statelessRead statelessIn
+front-held octets h en e es el = rw (eq-eqb (length octets) frontLength h, sym en ∙ e, el, es)
 
 -- RC4's state in 258 octets
 pub state-read : {cells : List ℕ} (octets : List ℕ) → length octets ≡ 258 → cells ≡ written (take 256 (take (length octets - 2) (drop 2 octets))) (replicate 256 0)

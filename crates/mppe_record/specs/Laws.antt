@@ -1,8 +1,8 @@
 -- What holds of records as octets.
 use mathlib.Core.Path.{_≡_, refl, sym, ap, _∙_}
 use mathlib.Core.Bool.{Bool, true, false, not}
-use mathlib.Core.List.{List, [], _∷_, _++_, append-assoc}
-use Prim.Native.Nat.{ℕ, zero, suc, _+_, _*_, _/_, _%_, _^_, _<_}
+use mathlib.Core.List.{List, [], _∷_, _++_, append-assoc, append-nil}
+use Prim.Native.Nat.{ℕ, zero, suc, _+_, _*_, _/_, _%_, _^_, _<_, _≤_}
 use native.Mathlib.Omega.{arith}
 use lib.Dec.{eqb}
 use lib.ListN.{length, take, drop, getD, replicate, length-append, length-drop, take-append-drop}
@@ -12,7 +12,7 @@ use Rattle.answer.specs.Answer.{done, size, notRecord, waiting, pick, firstOf, 
 use Rattle.octets.specs.Octets.{Octets, bigEndian, pairAt}
 use Rattle.rc4.specs.declared.Rc4.{Rc4}
 use Rattle.rc4.specs.Cipher.{box, unkeyed, keySchedule, after}
-use Rattle.rc4.specs.Permutation.{below-length, Sized as StateSized, keyed-sized, after-sized}
+use Rattle.rc4.specs.Permutation.{below-length, unkeyed-is, Sized as StateSized, keyed-sized, after-sized}
 use Rattle.mppe_keys.specs.declared.Strength.{Strength}
 use Rattle.mppe_keys.specs.declared.Mode.{Mode}
 use Rattle.mppe_keys.specs.declared.Mode.the-variants.{Stateless, Stateful}
@@ -20,9 +20,10 @@ use Rattle.mppe_keys.specs.declared.Strength.the-variants.{Bits40, Bits56, Bits
 use Rattle.mppe_keys.specs.Keys.{bitsOf, keyLength, byMode, modeIf, headOf, begins, initialKey, changes, placed}
 use Rattle.mppe_keys.specs.Laws.{key-most, placed-length, initialKey-length, changes-length}
 use Rattle.mppe.specs.declared.Link.{Link}
-use Rattle.mppe.specs.Link.{zeros, wellFormed, Result, startKeyIn, sessionKeyIn, linkOf, withBox, keptBox, newCount, noLink, newLink, bitA, lacks, refusal, sealCode, sealResult, nextChanges, nextKey, keysAfresh, nextBox, headerIn, dataIn, changesFor, keyFor, boxFor, stateFor, waited, openCode, openResult, resetCode, resetOutcome}
+use Rattle.mppe.specs.Link.{zeros, boxFits, wellFormed, Result, startKeyIn, sessionKeyIn, linkOf, withBox, keptBox, newCount, noLink, newLink, bitA, lacks, refusal, sealCode, sealResult, nextChanges, nextKey, keysAfresh, nextBox, headerIn, dataIn, changesFor, keyFor, boxFor, stateFor, waited, openCode, openResult, resetCode, resetOutcome}
+use Rattle.mppe.specs.Laws.{well-box, fits-unmarked, fits-unkeyed}
 use Rattle.mppe_record.specs.declared.RecordRead.{RecordRead}
-use Rattle.mppe_record.specs.Record.{strengthOf, noStrength, yesNumber, noChoice, frontOctets, restOctets, recordLength, recordOctets, recordIn, noRecord, recordRead}
+use Rattle.mppe_record.specs.Record.{strengthOf, noStrength, yesNumber, noChoice, frontOctets, restOctets, recordLength, recordOctets, frontIn, recordIn, noRecord, recordRead, frontLength, statelessIn, statelessRead}
 
 -- a strength's bits are its number
 pub bits-back : (s : Strength) → strengthOf (bitsOf s) ≡ s
@@ -107,33 +108,35 @@ cells-are l h =
     let cells : drop 4 (restOctets l) ≡ l .state .cells = unfold restOctets in refl in
     ap (take 256) (behind ∙ cells) ∙ take-all 256 (l .state .cells) (omega (arith, h .3 .0))
 
-keys-are : (l : Link) → Sized l
-    → (take 16 (drop 1 (recordOctets l)) ≡ l .start) × (take 16 (drop 17 (recordOctets l)) ≡ l .session) × (pairAt 33 (recordOctets l) ≡ l .count)
-unfolding recordOctets frontOctets
-keys-are l (hs, hk, hc, hb) =
+-- whatever stands behind the first 35
+frontIn-back : (l : Link) → Sized l → (rest : List ℕ) (mode : Mode) (state : Rc4) (mark : Bool)
+    → frontIn (frontOctets l ++ rest) mode state mark
+    ≡ record { strength = l .strength; mode = mode; start = l .start; session = l .session; count = l .count; state = state; waiting = mark }
+unfolding frontOctets
+frontIn-back l (hs, hk, hc, hb) rest mode state mark =
     let count : List ℕ = bigEndian 2 (l .count) in
-    let tail : List ℕ = count ++ restOctets l in
+    let tail : List ℕ = count ++ rest in
     let both : length (l .start ++ l .session) ≡ 32 = length-append (l .start) (l .session) ∙ omega arith in
-    let body : List ℕ = (l .start ++ l .session ++ count) ++ restOctets l in
-    let parts : body ≡ (l .start ++ l .session) ++ tail = append-assoc (l .start ++ l .session) count (restOctets l) in
+    let body : List ℕ = (l .start ++ l .session ++ count) ++ rest in
+    let parts : body ≡ (l .start ++ l .session) ++ tail = append-assoc (l .start ++ l .session) count rest in
     let parts′ : body ≡ l .start ++ (l .session ++ tail) = parts ∙ append-assoc (l .start) (l .session) tail in
     let start : take 16 body ≡ l .start = ap (take 16) parts′ ∙ take-at (l .start) (l .session ++ tail) 16 hs in
     let behind = ap (drop 16) parts′ ∙ drop-at (l .start) (l .session ++ tail) 16 hs in
     let session : take 16 (drop 16 body) ≡ l .session = ap (take 16) behind ∙ take-at (l .session) tail 16 hk in
     let last : drop 32 body ≡ tail = ap (drop 32) parts ∙ drop-at (l .start ++ l .session) tail 32 both in
-    let all : List ℕ = recordOctets l in
-    let high : getD all 33 0 ≡ l .count / 256 ^ 1 % 256 = sym (getD-drop 32 body 0 0) ∙ ap (λ t. getD t 0 0) last in
-    let low : getD all 34 0 ≡ l .count / 256 ^ 0 % 256 = sym (getD-drop 32 body 1 0) ∙ ap (λ t. getD t 1 0) last in
-    (start, session, rw (high, low) (omega arith))
+    let high : getD body 32 0 ≡ l .count / 256 ^ 1 % 256 = sym (getD-drop 32 body 0 0) ∙ ap (λ t. getD t 0 0) last in
+    let low : getD body 33 0 ≡ l .count / 256 ^ 0 % 256 = sym (getD-drop 32 body 1 0) ∙ ap (λ t. getD t 1 0) last in
+    let all : getD body 32 0 * 256 + getD body 33 0 ≡ l .count = rw (high, low) (omega arith) in
+    rw (bits-back (l .strength), start, session, all)
 
 recordIn-back : (l : Link) → Sized l → recordIn (recordOctets l) ≡ l
 unfolding recordIn
 recordIn-back l h =
-    let (start, session, count) = keys-are l h in
     let i-is : getD (recordOctets l) 37 0 ≡ l .state .i = rest-at l h 2 ∙ unfold restOctets in refl in
     let j-is : getD (recordOctets l) 38 0 ≡ l .state .j = rest-at l h 3 ∙ unfold restOctets in refl in
-    rw
-    (first-is l, bits-back (l .strength), mode-is l h, yes-back (byMode (l .mode) false true), mode-back (l .mode), mark-is l h, yes-back (l .waiting), start, session, count, cells-are l h, i-is, j-is)
+    let all : recordOctets l ≡ frontOctets l ++ restOctets l = unfold recordOctets in refl in
+    rw (mode-is l h, yes-back (byMode (l .mode) false true), mode-back (l .mode), mark-is l h, yes-back (l .waiting), cells-are l h, i-is, j-is)
+    (ap (λ t. frontIn t (l .mode) (l .state) (l .waiting)) all ∙ frontIn-back l h (restOctets l) (l .mode) (l .state) (l .waiting))
 
 pub reads-back : (l : Link) → Sized l → recordRead (recordOctets l) ≡ record { answer = done; link = l }
 unfolding recordRead
@@ -170,10 +173,11 @@ pub read-length : (octets : List ℕ) → recordRead octets .answer ≡ done →
 read-length octets ok = read-known octets ok .0
 
 -- octets that hold a record, read and written back, are the same: the first 35 ..
-front-back : (octets : List ℕ) → Octets octets → length octets ≡ recordLength → firstIs octets ≡ true → frontOctets (recordIn octets) ≡ take 35 octets
-unfolding frontOctets recordIn
-front-back [] all h e = absurd (omega arith)
-front-back (x ∷ xs) all h e =
+front-back : (octets : List ℕ) → Octets octets → frontLength ≤ length octets → firstIs octets ≡ true → (mode : Mode) (state : Rc4) (mark : Bool)
+    → frontOctets (frontIn octets mode state mark) ≡ take 35 octets
+unfolding frontOctets
+front-back [] all h e mode state mark = absurd (omega arith)
+front-back (x ∷ xs) all h e mode state mark =
     let high : ℕ = getD xs 32 0 in
     let low : ℕ = getD xs 33 0 in
     let last : take 2 (drop 32 xs) ≡ high ∷ low ∷ [] = ap (take 2) (drop-cons xs 32 0 (omega arith) ∙ ap (λ t. high ∷ t) (drop-cons xs 33 0 (omega arith))) in
@@ -206,7 +210,33 @@ pub writes-back : (octets : List ℕ) → Octets octets → recordRead octets .a
 unfolding recordOctets
 writes-back octets all ok =
     let (long, first, mode, mark, link) = read-known octets ok in
-    rw (link, front-back octets all long first, rest-back octets long mode mark) (take-append-drop 35 octets)
+    let front : frontOctets (recordIn octets) ≡ take 35 octets = unfold recordIn in front-back octets all (omega arith) first _ _ _ in
+    rw (link, front, rest-back octets long mode mark) (take-append-drop 35 octets)
+
+-- a well-formed stateless record is read back from its first 35 octets alone, and what is read of them is written as them
+pub stateless-back : (l : Link) → Sized l → l .mode ≡ Stateless → wellFormed l ≡ true → statelessRead (frontOctets l) ≡ record { answer = done; link = l }
+unfolding statelessRead statelessIn frontOctets
+stateless-back l h mode well =
+    let fits : boxFits Stateless (l .state) (l .waiting) ≡ true = rw mode at (well-box l well) in
+    let unkeyed-box = unkeyed-is (l .state) (fits-unkeyed (l .state) (l .waiting) fits) in
+    let mark = fits-unmarked Stateless (l .state) (l .waiting) refl fits in
+    let back = frontIn-back l h [] Stateless unkeyed false in
+    rw (eq-eqb (length (frontOctets l)) frontLength (frontOctets-length l h), bits-known (l .strength))
+    (ap (λ t. record { answer = done; link = t }) (ap (λ t. frontIn t Stateless unkeyed false) (sym (append-nil (frontOctets l))) ∙ back ∙ rw (← mode, unkeyed-box, mark)))
+
+pub stateless-writes : (octets : List ℕ) → Octets octets → statelessRead octets .answer ≡ done → frontOctets (statelessRead octets .link) ≡ octets
+unfolding statelessRead statelessIn
+stateless-writes octets all ok = go (eqb (length octets) frontLength) (firstIs octets) refl refl ok
+  where
+    read : Bool → Bool → RecordRead
+    read a b = onDone (firstOf ((notRecord, not a) ∷ (notRecord, not b) ∷ [])) (record { answer = done; link = statelessIn octets }) noRecord
+
+    go : (a b : Bool) → eqb (length octets) frontLength ≡ a → firstIs octets ≡ b → read a b .answer ≡ done → frontOctets (read a b .link) ≡ octets
+    go true true h e ok =
+        let long = eqb-true (length octets) frontLength h in
+        front-back octets all (omega arith) e Stateless unkeyed false ∙ take-all 35 octets (omega arith)
+    go true false h e ok = absurd (omega arith)
+    go false b h e ok = absurd (omega arith)
 
 -- what is read of octets that hold no record is not well formed, so that seal and open refuse it
 pub noRecord-ill : wellFormed (noRecord .link) ≡ false

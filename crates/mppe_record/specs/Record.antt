@@ -6,9 +6,11 @@ use lib.Dec.{eqb, ltb}
 use lib.ListN.{take, drop, getD}
 use Rattle.answer.specs.Answer.{done, notRecord, pick, firstOf, onDone, wrong}
 use Rattle.octets.specs.Octets.{bigEndian, pairAt}
-use Rattle.rc4.specs.Cipher.{box}
+use Rattle.rc4.specs.declared.Rc4.{Rc4}
+use Rattle.rc4.specs.Cipher.{box, unkeyed}
 use Rattle.mppe_keys.specs.declared.Strength.{Strength}
 use Rattle.mppe_keys.specs.declared.Strength.the-variants.{Bits40, Bits56, Bits128}
+use Rattle.mppe_keys.specs.declared.Mode.{Mode}
 use Rattle.mppe_keys.specs.declared.Mode.the-variants.{Stateless}
 use Rattle.mppe_keys.specs.Keys.{bitsOf, byMode, modeIf}
 use Rattle.mppe.specs.declared.Link.{Link}
@@ -47,18 +49,24 @@ recordLength = 295
 unfoldable pub recordOctets : Link → List ℕ
 recordOctets l = frontOctets l ++ restOctets l
 
--- the record in 295 octets
-unfoldable pub recordIn : List ℕ → Link
-recordIn octets =
+-- the record of which octets hold the first 35, with this mode, box and mark
+abbrev pub frontIn : List ℕ → Mode → (state : Rc4) (mark : Bool) → Link
+frontIn octets mode state mark =
     record {
       strength = strengthOf (getD octets 0 0);
-      mode = modeIf (eqb (getD octets 35 0) 1);
+      mode = mode;
       start = take 16 (drop 1 octets);
       session = take 16 (drop 17 octets);
       count = pairAt 33 octets;
-      state = box (take 256 (drop 39 octets)) (getD octets 37 0) (getD octets 38 0);
-      waiting = eqb (getD octets 36 0) 1;
+      state = state;
+      waiting = mark;
     }
+
+-- the record in 295 octets
+unfoldable pub recordIn : List ℕ → Link
+recordIn octets =
+    frontIn octets (modeIf (eqb (getD octets 35 0) 1)) (box (take 256 (drop 39 octets)) (getD octets 37 0) (getD octets 38 0))
+    (eqb (getD octets 36 0) 1)
 
 -- octets that hold none: there are not 295 of them, the first is no strength, or the mode or the mark is neither 0 nor 1
 abbrev pub recordRows : List ℕ → List (ℕ × Bool)
@@ -75,3 +83,17 @@ noRecord = record { answer = notRecord; link = noLink Bits40 Stateless }
 
 unfoldable pub recordRead : List ℕ → RecordRead
 recordRead octets = onDone (firstOf (recordRows octets)) (record { answer = done; link = recordIn octets }) noRecord
+
+-- the first 35 octets alone hold a stateless record, whose box and mark are no others: "in stateless mode 0 to 255 in order, indices 0, mark
+-- off" (02, M-103); 7 where there are not 35 of them, or the first is no strength
+abbrev pub frontLength : ℕ
+frontLength = 35
+
+unfoldable pub statelessIn : List ℕ → Link
+statelessIn octets = frontIn octets Stateless unkeyed false
+
+abbrev pub statelessRows : List ℕ → List (ℕ × Bool)
+statelessRows octets = (notRecord, wrong frontLength octets) ∷ (notRecord, noStrength (getD octets 0 0)) ∷ []
+
+unfoldable pub statelessRead : List ℕ → RecordRead
+statelessRead octets = onDone (firstOf (statelessRows octets)) (record { answer = done; link = statelessIn octets }) noRecord

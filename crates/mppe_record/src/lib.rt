@@ -1,9 +1,10 @@
 // A link record as octets: strength in bits 1, start key 16, session key 16, last count 2 with its highest octet first; and behind these
 // 35 mode 1, waiting mark 1, RC4's indices 1 each, its cells 256.
 ghost use mathlib.Core.Path.{_≡_};
+ghost use Prim.Native.Nat.{_≤_};
 ghost use lib.ListN.{length};
 ghost use Rattle.mppe_keys.specs.Keys.{bitsOf};
-ghost use Rattle.mppe_record.specs.Record.{strengthOf, noStrength, yesNumber, frontOctets, restOctets, recordLength, recordOctets, recordIn, noRecord, recordRead};
+ghost use Rattle.mppe_record.specs.Record.{strengthOf, noStrength, yesNumber, frontOctets, restOctets, recordLength, recordOctets, frontIn, recordIn, noRecord, recordRead, frontLength, statelessRead};
 ghost use Rattle.mppe_record.specs.Inner.{stateIn};
 use mppe::Link;
 use mppe_keys::Mode;
@@ -15,8 +16,8 @@ use rc4::Rc4;
 
 // The octets of a link record; the first is its strength in bits.
 pub const RECORD_LENGTH: usize = 295;
-// Those in front of the mode.
-const FRONT_LENGTH: usize = 35;
+// Those in front of the mode, which alone hold a stateless record.
+pub const FRONT_LENGTH: usize = 35;
 // Where its start key begins.
 const START_AT: usize = 1;
 // Where its session key begins.
@@ -49,7 +50,7 @@ pub fn record_octets(link: Link) -> [u8; 295]
 }
 
 // Its first 35 octets.
-fn front_octets(link: Link) -> [u8; 35]
+pub fn front_octets(link: Link) -> [u8; 35]
     ensures { λ r. ⌜ (r ≡ frontOctets link) × (length r ≡ 35) ⌝ }
 {
     let strength = link.strength;
@@ -121,6 +122,22 @@ pub fn read_record(octets: &[u8]) -> RecordRead
     }
 }
 
+// Reads a stateless record of its first 35 octets; refused as `record` where they are not 35, or the first is no strength.
+pub fn read_stateless(octets: &[u8]) -> RecordRead
+    ensures { λ r. ⌜ r ≡ statelessRead (now (octets .entry)) ⌝ }
+{
+    if octets.len() != FRONT_LENGTH {
+        return no_record();
+    }
+    if no_strength(octets[0]) {
+        return no_record();
+    }
+    RecordRead {
+        answer: answer::DONE,
+        link: front_in(octets, Mode::Stateless, Rc4::unkeyed(), false),
+    }
+}
+
 // Whether a number of bits is no strength.
 pub fn no_strength(bits: u8) -> bool
     ensures { λ r. ⌜ r ≡ noStrength bits ⌝ }
@@ -159,13 +176,22 @@ fn record_in(octets: &[u8]) -> Link
 {
     let stateful = octets[MODE_AT] == 1;
     let waiting = octets[MARK_AT] == 1;
+    let state = state_in(&octets[STATE_AT..]);
+    front_in(octets, mode_if(stateful), state, waiting)
+}
+
+// The record of which octets hold the first 35.
+fn front_in(octets: &[u8], mode: Mode, state: Rc4, waiting: bool) -> Link
+    requires { ⌜ frontLength ≤ length (now octets) ⌝ }
+    ensures { λ r. ⌜ r ≡ frontIn (now (octets .entry)) mode state waiting ⌝ }
+{
     Link {
         strength: strength_of(octets[0]),
-        mode: mode_if(stateful),
+        mode,
         start: places(&octets[START_AT..SESSION_AT]),
         session: places(&octets[SESSION_AT..COUNT_AT]),
         count: pair(octets[COUNT_AT], octets[COUNT_AT + 1]),
-        state: state_in(&octets[STATE_AT..]),
+        state,
         waiting,
     }
 }

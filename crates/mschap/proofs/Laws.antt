@@ -14,7 +14,7 @@ use lib.Seq.{split-at, drop-drop, take-all, take-at, take-suc, take-append-seam,
 use borrow.Author.Tests.{ltb-false, lt-ltb, le-ltb, eq-eqb, ne-eqb}
 use Rattle.answer.specs.Answer.{done, size, pick, firstOf, onDone, wrong}
 use Rattle.answer.specs.Laws.{clear, rows-pass, rows-stop, told}
-use Rattle.octets.specs.Octets.{written, writtenAt, longestText}
+use Rattle.octets.specs.Octets.{written, writtenAt, equal, longestText}
 use Rattle.octets.specs.Below.{below}
 use Rattle.octets.specs.Laws.{grown, append-more}
 use Rattle.md4.specs.Md4.{md4, md4Answer}
@@ -33,7 +33,7 @@ use Rattle.mschap.specs.declared.AuthenticatorString.{AuthenticatorStrin
 use Rattle.mschap.specs.declared.Checked.{Checked}
 use Rattle.mschap.specs.Lengths.{longestPassword, longestName}
 use Rattle.mschap.specs.Name.{backslash, holds, nameRows, hashedName}
-use Rattle.mschap.specs.Mschap.{passwordHash, hashHash, challengeHash, zPasswordHash, challengeResponse, ntResponse, magic1, magic2, hexDigit, hexDigits, encoded, signature, authenticatorString, equal}
+use Rattle.mschap.specs.Mschap.{passwordHash, hashHash, challengeHash, zPasswordHash, challengeResponse, ntResponse, magic1, magic2, hexDigit, hexDigits, encoded, signature, authenticatorString}
 use Rattle.mschap.specs.Answers.{passwordRows, responseRows, stringRows, hashAnswer, challengeAnswer, responseAnswer, stringAnswer, checkAnswer, ntResponseAnswer, authenticatorStringAnswer, checkResponseAnswer, checkAuthenticatorAnswer}
 use Rattle.mschap.specs.Laws.{holds-append, hashed-whole, hashed-user, hashed-short, hexDigits-length}
 
@@ -56,44 +56,6 @@ whole-name name i none h = sym (hashed-whole name (rw (take-all i name h) at non
 -- the name from there on
 pub user-part : (name : List ℕ) (k : ℕ) → drop k name ≡ hashedName name → take (length name - k) (drop k name) ≡ hashedName name
 user-part name k e = take-all (length name - k) (drop k name) (omega (arith, length-drop k name)) ∙ e
-
--- octets differ nowhere exactly if the differences, joined, are 0
-or-none : (a b : ℕ) → bitOr a b ≡ 0 → (a ≡ 0) × (b ≡ 0)
-or-none a b e =
-    let s = or-add-and a b in
-    let l = and-le-l a b in
-    let r = and-le-r a b in
-    (omega arith, omega arith)
-
-xor-none : (a b : ℕ) → bitXor a b ≡ 0 → a ≡ b
-xor-none a b e =
-    let s = xor-add-and a b in
-    let l = and-le-l a b in
-    let r = and-le-r a b in
-    omega arith
-
-difference : (d x y : ℕ) → eqb (bitOr d (bitXor x y)) 0 ≡ (eqb d 0 && eqb x y)
-difference d x y = go (ℕ-discrete d 0) (ℕ-discrete x y)
-  where
-    go : Dec (d ≡ 0) → Dec (x ≡ y) → eqb (bitOr d (bitXor x y)) 0 ≡ (eqb d 0 && eqb x y)
-    go (yes p) (yes q) = rw (p, q, xor-self y, eq-eqb y y refl)
-    go (yes p) (no q) = rw (p, ne-eqb x y q, ne-eqb (bitOr 0 (bitXor x y)) 0 (λ e. q (xor-none x y (or-none 0 (bitXor x y) e .1))))
-    go (no p) q = rw (ne-eqb d 0 p, ne-eqb (bitOr d (bitXor x y)) 0 (λ e. p (or-none d (bitXor x y) e .0)))
-
-equal-more : (a b : List ℕ) (i : ℕ) → i < length a → i < length b
-    → (equal (take i a) (take i b) && eqb (getD a i 0) (getD b i 0)) ≡ equal (take (suc i) a) (take (suc i) b)
-unfolding equal
-equal-more [] b i ha hb = absurd (not-suc-le-zero ha)
-equal-more (x ∷ xs) [] i ha hb = absurd (not-suc-le-zero hb)
-equal-more (x ∷ xs) (y ∷ ys) zero ha hb = rw and-true
-equal-more (x ∷ xs) (y ∷ ys) (suc i) ha hb = rw (and-assoc, equal-more xs ys i (omega arith) (omega arith))
-
-pub compared : (a b : List ℕ) (d i : ℕ) → eqb d 0 ≡ equal (take i a) (take i b) → i < length a → i < length b
-    → eqb (bitOr d (bitXor (getD a i 0) (getD b i 0))) 0 ≡ equal (take (i + 1) a) (take (i + 1) b)
-compared a b d i e ha hb = difference d (getD a i 0) (getD b i 0) ∙ rw (e, add-one, equal-more a b i ha hb)
-
-pub compared-all : (a b : List ℕ) (d i n : ℕ) → eqb d 0 ≡ equal (take i a) (take i b) → i ≡ n → eqb d 0 ≡ equal (take n a) (take n b)
-compared-all a b d i n e ei = rw (← ei) e
 
 pub three-copied : {t₁ t₂ t₃ : List ℕ} (a b c t : List ℕ) → t₁ ≡ writtenAt 0 (take (length t - 0) a) t
     → t₂ ≡ writtenAt (length a) (take (length t₁ - length a) b) t₁
@@ -277,15 +239,15 @@ string-made password response peer authenticator name eh ec eo = rw (eo, eh, ec)
 
 -- what is received, held against the result
 checked : {t : Bool} {own : List ℕ} (n code : ℕ) (result received : List ℕ) → code ≡ 0 → own ≡ result → length own ≡ n
-    → length received ≡ n → t ≡ equal (take n own) (take n received)
+    → length received ≡ n → t ≡ equal own received
     → _≡_ {A = Checked} (record { answer = 0; yes = t }) (checkAnswer (pick (wrong n received) size code) (equal result received))
 unfolding checkAnswer
 checked {t} {own} n code result received z e ho hr et =
-    rw (eq-eqb (length received) n hr, z, et, take-all n own (omega arith), take-all n received (omega arith), e)
+    rw (eq-eqb (length received) n hr, z, et, e)
 
 pub response-checked : {r : NtResponse} {t : Bool} (authenticator peer name password received : List ℕ)
     → r ≡ ntResponseAnswer authenticator peer name password → r .answer ≡ 0 → length (r .octets) ≡ 24 → length received ≡ 24
-    → t ≡ equal (take 24 (r .octets)) (take 24 received)
+    → t ≡ equal (r .octets) received
     → _≡_ {A = Checked} (record { answer = 0; yes = t }) (checkResponseAnswer authenticator peer name password received)
 unfolding ntResponseAnswer checkResponseAnswer
 response-checked authenticator peer name password received e z ho hr et =
@@ -296,7 +258,7 @@ response-checked authenticator peer name password received e z ho hr et =
 
 pub string-checked : {r : AuthenticatorString} {t : Bool} (password response peer authenticator name received : List ℕ)
     → r ≡ authenticatorStringAnswer password response peer authenticator name → r .answer ≡ 0 → length (r .octets) ≡ 42 → length received ≡ 42
-    → t ≡ equal (take 42 (r .octets)) (take 42 received)
+    → t ≡ equal (r .octets) received
     → _≡_ {A = Checked} (record { answer = 0; yes = t }) (checkAuthenticatorAnswer password response peer authenticator name received)
 unfolding authenticatorStringAnswer checkAuthenticatorAnswer
 string-checked password response peer authenticator name received e z ho hr et =

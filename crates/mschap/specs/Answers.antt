@@ -5,6 +5,7 @@ use Prim.Native.Nat.{ℕ, _%_}
 use lib.Dec.{eqb, ltb}
 use lib.ListN.{length, replicate}
 use Rattle.answer.specs.Answer.{size, firstOf, onDone, wrong}
+use Rattle.octets.specs.Octets.{equal}
 use Rattle.mschap.specs.declared.Hash.{Hash}
 use Rattle.mschap.specs.declared.ChallengeHash.{ChallengeHash}
 use Rattle.mschap.specs.declared.NtResponse.{NtResponse}
@@ -12,7 +13,7 @@ use Rattle.mschap.specs.declared.AuthenticatorString.{AuthenticatorStrin
 use Rattle.mschap.specs.declared.Checked.{Checked}
 use Rattle.mschap.specs.Lengths.{longestPassword, challengeLength, responseLength, hashLength, challengeHashLength, stringLength}
 use Rattle.mschap.specs.Name.{nameRows}
-use Rattle.mschap.specs.Mschap.{passwordHash, hashHash, challengeHash, challengeResponse, ntResponse, authenticatorString, equal}
+use Rattle.mschap.specs.Mschap.{passwordHash, hashHash, challengeHash, challengeResponse, ntResponse, authenticatorString}
 
 -- "Password: 0 to 512 octets, even"
 abbrev pub passwordRows : List ℕ → List (ℕ × Bool)

@@ -10,6 +10,7 @@ use lib.Seq.{length-take-le}
 use borrow.Author.Tests.{le-ltb, eq-eqb, eqb-true}
 use Rattle.answer.specs.Answer.{done, size, domain, pick, wrong, firstOf}
 use Rattle.answer.specs.Laws.{right, never}
+use Rattle.octets.specs.Laws.{equal-same, equal-true}
 use Rattle.md4.specs.Laws.{md4-length}
 use Rattle.sha1.specs.Sha1.{sha1}
 use Rattle.sha1.specs.Laws.{sha1-length}
@@ -21,7 +22,7 @@ use Rattle.mschap.specs.declared.AuthenticatorString.{AuthenticatorStrin
 use Rattle.mschap.specs.declared.Checked.{Checked}
 use Rattle.mschap.specs.Lengths.{longestPassword, longestName, challengeLength, responseLength, hashLength, challengeHashLength, stringLength}
 use Rattle.mschap.specs.Name.{backslash, holds, following, nameRows, hashedName}
-use Rattle.mschap.specs.Mschap.{passwordHash, hashHash, challengeHash, zPasswordHash, challengeResponse, ntResponse, hexDigits, encoded, signature, authenticatorString, equal}
+use Rattle.mschap.specs.Mschap.{passwordHash, hashHash, challengeHash, zPasswordHash, challengeResponse, ntResponse, hexDigits, encoded, signature, authenticatorString}
 use Rattle.mschap.specs.Answers.{passwordRows, challengeRows, responseRows, stringRows, hashAnswer, challengeAnswer, responseAnswer, stringAnswer, checkAnswer, passwordHashAnswer, hashHashAnswer, challengeHashAnswer, challengeResponseAnswer, ntResponseAnswer, authenticatorStringAnswer, checkResponseAnswer, checkAuthenticatorAnswer}
 
 -- the lengths of all results
@@ -172,23 +173,6 @@ pub authenticatorString-done : (password response peer authenticator name : List
 unfolding authenticatorStringAnswer stringAnswer
 authenticatorString-done password response peer authenticator name hr h =
     rw (right responseLength response hr, h)
-
--- a comparison is a yes for the same octets, and for no others
-pub equal-same : (a : List ℕ) → equal a a ≡ true
-unfolding equal
-equal-same [] = refl
-equal-same (x ∷ xs) = rw (eq-eqb x x refl, equal-same xs)
-
-pub equal-true : (a b : List ℕ) → equal a b ≡ true → a ≡ b
-unfolding equal
-equal-true [] [] h = refl
-equal-true [] (y ∷ ys) h = absurd (false≢true h)
-equal-true (x ∷ xs) [] h = absurd (false≢true h)
-equal-true (x ∷ xs) (y ∷ ys) h = go (eqb x y) refl (equal-true xs ys)
-  where
-    go : (t : Bool) → eqb x y ≡ t → (equal xs ys ≡ true → xs ≡ ys) → x ∷ xs ≡ y ∷ ys
-    go true e rest = rw (eqb-true x y e, rest (rw e at h))
-    go false e rest = absurd (false≢true (rw e at h))
 
 -- a yes comes with a 0, and with no difference
 check-yes : (code : ℕ) (same : Bool) → checkAnswer code same .yes ≡ true → (code ≡ done) × (same ≡ true)

@@ -1,5 +1,4 @@
 -- MS-CHAPv2's hashes, responses and authenticator string (RFC 2759, sections 8.1 to 8.8), as 01, "MS-CHAPv2", condenses them.
-use mathlib.Core.Bool.{Bool, true, false, _&&_}
 use mathlib.Core.List.{List, [], _∷_, _++_}
 use Prim.Native.Nat.{ℕ, _/_, _%_}
 use lib.Dec.{eqb}
@@ -77,10 +76,3 @@ signature hash response challenge =
 unfoldable pub authenticatorString : (password response peer authenticator name : List ℕ) → List ℕ
 authenticatorString password response peer authenticator name =
     signature (passwordHash password) response (challengeHash peer authenticator name)
-
--- 8.8, CheckAuthenticatorResponse: "if (MyResponse = ReceivedResponse)", octet by octet
-unfoldable pub equal : (a b : List ℕ) → Bool
-equal [] [] = true
-equal [] (y ∷ ys) = false
-equal (x ∷ xs) [] = false
-equal (x ∷ xs) (y ∷ ys) = eqb x y && equal xs ys

@@ -10,7 +10,7 @@ ghost use Rattle.md4.specs.Md4.{md4 as md4Of};
 ghost use Rattle.sha1.specs.Sha1.{sha1 as sha1Of};
 ghost use Rattle.des.specs.Des.{encrypted};
 ghost use Rattle.mschap.specs.Name.{nameRows, hashedName};
-ghost use Rattle.mschap.specs.Mschap.{challengeResponse, hexDigit, encoded as encodedOf, signature as signatureOf, equal};
+ghost use Rattle.mschap.specs.Mschap.{challengeResponse, hexDigit, encoded as encodedOf, signature as signatureOf};
 ghost use Rattle.mschap.specs.Answers.{passwordHashAnswer, hashHashAnswer, challengeHashAnswer, challengeResponseAnswer, ntResponseAnswer, authenticatorStringAnswer, checkResponseAnswer, checkAuthenticatorAnswer};
 use octets::copy;
 use octets::copy_at;
@@ -199,7 +199,7 @@ pub fn check_response(
     let own = response.octets;
     Checked {
         answer: answer::DONE,
-        yes: same(&own, received, RESPONSE_LENGTH),
+        yes: octets::same(&own, received),
     }
 }
 
@@ -225,7 +225,7 @@ pub fn check_authenticator(
     let own = string.octets;
     Checked {
         answer: answer::DONE,
-        yes: same(&own, received, STRING_LENGTH),
+        yes: octets::same(&own, received),
     }
 }
 
@@ -374,20 +374,6 @@ fn digit(x: u8) -> u8
     ensures { λ r. ⌜ r ≡ hexDigit x ⌝ }
 {
     if x < 10 { b'0' + x } else { b'A' + (x - 10) }
-}
-
-// Whether the first n octets are the same. All are compared and their differences joined, so that the time does not tell where they are.
-fn same(a: &[u8], b: &[u8], n: usize) -> bool
-    requires { ⌜ (n ≤ length (now a)) × (n ≤ length (now b)) ⌝ }
-    ensures { λ r. ⌜ r ≡ equal (take n (now (a .entry))) (take n (now (b .entry))) ⌝ }
-{
-    let mut difference = 0u8;
-    let mut i = 0;
-    while i < n {
-        difference = difference | (a[i] ^ b[i]);
-        i += 1;
-    }
-    difference == 0
 }
 
 // Three texts, one behind the other, into the front of a buffer.

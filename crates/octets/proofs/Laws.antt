@@ -1,17 +1,20 @@
--- What the proofs of this crate cite: a rotation by no place, a part of a buffer written, words written one after the other.
+-- What the proofs of this crate cite: a rotation by no place, a part of a buffer written, words written one after the other, octets compared.
 use mathlib.Core.Path.{_≡_, refl, sym, ap, _∙_}
+use mathlib.Core.Bool.{Bool, true, false, _&&_, and-assoc, and-true}
 use mathlib.Core.List.{List, [], _∷_, _++_, append-assoc, append-nil, reverse}
 use Prim.Native.Nat.{ℕ, zero, suc, _+_, _*_, _-_, _/_, _%_, _^_, _≤_, _<_, min}
 use native.Mathlib.Numerals.{add-one}
-use native.Mathlib.Decide.{decLe}
+use native.Mathlib.Nat.{not-suc-le-zero}
+use native.Mathlib.Decide.{ℕ-discrete, decLe}
 use native.Mathlib.Omega.{arith}
-use lib.Bits.{or-zero-r}
+use lib.Bits.{bitOr, bitXor, or-zero-r, or-add-and, xor-add-and, and-le-l, and-le-r, xor-self}
+use lib.Dec.{eqb}
 use lib.ListN.{length, take, drop, getD, replicate, length-append, length-drop, drop-of-length-le}
 use lib.Seq.{length-take-le, take-suc, take-all, take-at, drop-at, take-length, drop-drop}
-use borrow.Author.Tests.{le-leb, lt-leb}
+use borrow.Author.Tests.{le-leb, lt-leb, eq-eqb, ne-eqb}
 use borrow.Rule.Slice.PartMut.{putMid}
 use Rattle.octets.specs.Laws.{copy-fits}
-use Rattle.octets.specs.Octets.{bigEndian, written, writtenAt, octetsOf, wordsOf, writtenIfRoom}
+use Rattle.octets.specs.Octets.{bigEndian, written, writtenAt, octetsOf, wordsOf, writtenIfRoom, equal}
 use Rattle.octets.specs.declared.Order.{Order}
 use Rattle.octets.specs.declared.Order.the-variants.{HighestFirst, LowestFirst}
 use Rattle.octets.specs.Words.{rotl, rotr}
@@ -119,3 +122,52 @@ long-high x e h = rw e ((rw e at h) ∙ eight x)
 pub long-low : {order : Order} {out : List ℕ} (x : ℕ) → order ≡ LowestFirst
     → out ≡ writtenIfRoom (wordsOf order (x % 4294967296 ∷ x / 4294967296 ∷ [])) (replicate 8 0) → out ≡ octetsOf order 8 x
 long-low x e h = rw e ((rw e at h) ∙ ap reverse (eight x))
+
+-- octets differ nowhere exactly if the differences, joined, are 0
+or-none : (a b : ℕ) → bitOr a b ≡ 0 → (a ≡ 0) × (b ≡ 0)
+or-none a b e =
+    let s = or-add-and a b in
+    let l = and-le-l a b in
+    let r = and-le-r a b in
+    (omega arith, omega arith)
+
+xor-none : (a b : ℕ) → bitXor a b ≡ 0 → a ≡ b
+xor-none a b e =
+    let s = xor-add-and a b in
+    let l = and-le-l a b in
+    let r = and-le-r a b in
+    omega arith
+
+difference : (d x y : ℕ) → eqb (bitOr d (bitXor x y)) 0 ≡ (eqb d 0 && eqb x y)
+difference d x y = go (ℕ-discrete d 0) (ℕ-discrete x y)
+  where
+    go : Dec (d ≡ 0) → Dec (x ≡ y) → eqb (bitOr d (bitXor x y)) 0 ≡ (eqb d 0 && eqb x y)
+    go (yes p) (yes q) = rw (p, q, xor-self y, eq-eqb y y refl)
+    go (yes p) (no q) = rw (p, ne-eqb x y q, ne-eqb (bitOr 0 (bitXor x y)) 0 (λ e. q (xor-none x y (or-none 0 (bitXor x y) e .1))))
+    go (no p) q = rw (ne-eqb d 0 p, ne-eqb (bitOr d (bitXor x y)) 0 (λ e. p (or-none d (bitXor x y) e .0)))
+
+equal-more : (a b : List ℕ) (i : ℕ) → i < length a → i < length b
+    → (equal (take i a) (take i b) && eqb (getD a i 0) (getD b i 0)) ≡ equal (take (suc i) a) (take (suc i) b)
+unfolding equal
+equal-more [] b i ha hb = absurd (not-suc-le-zero ha)
+equal-more (x ∷ xs) [] i ha hb = absurd (not-suc-le-zero hb)
+equal-more (x ∷ xs) (y ∷ ys) zero ha hb = rw and-true
+equal-more (x ∷ xs) (y ∷ ys) (suc i) ha hb = rw (and-assoc, equal-more xs ys i (omega arith) (omega arith))
+
+pub compared : (a b : List ℕ) (d i : ℕ) → eqb d 0 ≡ equal (take i a) (take i b) → i < length a → i < length b
+    → eqb (bitOr d (bitXor (getD a i 0) (getD b i 0))) 0 ≡ equal (take (i + 1) a) (take (i + 1) b)
+compared a b d i e ha hb = difference d (getD a i 0) (getD b i 0) ∙ rw (e, add-one, equal-more a b i ha hb)
+
+pub compared-all : (a b : List ℕ) (d i : ℕ) → eqb d 0 ≡ equal (take i a) (take i b) → length a ≡ length b → length a ≤ i → eqb d 0 ≡ equal a b
+compared-all a b d i e same all = rw (take-all i a all, take-all i b (omega arith)) at e
+
+pub lengths-differ : (a b : List ℕ) → (length a ≡ length b → ⊥) → false ≡ equal a b
+unfolding equal
+lengths-differ [] [] h = absurd (h refl)
+lengths-differ [] (y ∷ ys) h = refl
+lengths-differ (x ∷ xs) [] h = refl
+lengths-differ (x ∷ xs) (y ∷ ys) h = by (eqb x y) (lengths-differ xs ys (λ e. h (ap suc e)))
+  where
+    by : (t : Bool) → false ≡ equal xs ys → false ≡ (t && equal xs ys)
+    by true e = e
+    by false e = refl

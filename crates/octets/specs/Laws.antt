@@ -1,14 +1,18 @@
--- What callers need of octets: a number and its octets, a copy one octet longer, one that has room, texts put together in a local buffer.
+-- What callers need of octets: a number and its octets, a copy one octet longer, one that has room, texts put together in a local buffer,
+-- and texts compared.
 use mathlib.Core.Path.{_≡_, refl, sym, ap, _∙_}
+use mathlib.Core.Bool.{Bool, true, false, false≢true}
 use mathlib.Core.List.{List, [], _∷_, _++_, append-assoc}
 use Prim.Native.Nat.{ℕ, zero, suc, _+_, _*_, _-_, _/_, _%_, _^_, _<_, _≤_}
 use native.Mathlib.Nat.{pow-suc, pow-zero, mod-one, mul-comm, mul-assoc, add-mul, add-assoc}
 use native.Mathlib.Numerals.{add-one}
 use native.Mathlib.Omega.{arith}
 use lib.Arith.{mod-mul}
+use lib.Dec.{eqb}
 use lib.ListN.{length, take, drop, getD, set, replicate, length-append, length-replicate}
 use lib.Seq.{length-take-le, take-suc, take-all, drop-cons, drop-drop, set-at, take-append-seam, drop-append-add}
-use Rattle.octets.specs.Octets.{bigEndian, joined, fromBigEndian, written, writtenAt}
+use borrow.Author.Tests.{eq-eqb, eqb-true}
+use Rattle.octets.specs.Octets.{bigEndian, joined, fromBigEndian, written, writtenAt, equal}
 
 -- the octets of a number, and the number back from them
 pub bigEndian-length : (k n : ℕ) → length (bigEndian k n) ≡ k
@@ -82,3 +86,20 @@ pub written-more : {t t′ : List ℕ} (l out q : List ℕ) (at : ℕ) → t ≡
 written-more l out q at e e′ h =
     rw
     (e′, e, ← h, take-append-seam l (drop (length l) out), drop-append-add l (drop (length l) out) (length q), drop-drop (length q) (length l) out, length-append l q, append-assoc)
+
+-- a comparison is a yes for the same octets, and for no others
+pub equal-same : (a : List ℕ) → equal a a ≡ true
+unfolding equal
+equal-same [] = refl
+equal-same (x ∷ xs) = rw (eq-eqb x x refl, equal-same xs)
+
+pub equal-true : (a b : List ℕ) → equal a b ≡ true → a ≡ b
+unfolding equal
+equal-true [] [] h = refl
+equal-true [] (y ∷ ys) h = absurd (false≢true h)
+equal-true (x ∷ xs) [] h = absurd (false≢true h)
+equal-true (x ∷ xs) (y ∷ ys) h = go (eqb x y) refl (equal-true xs ys)
+  where
+    go : (t : Bool) → eqb x y ≡ t → (equal xs ys ≡ true → xs ≡ ys) → x ∷ xs ≡ y ∷ ys
+    go true e rest = rw (eqb-true x y e, rest (rw e at h))
+    go false e rest = absurd (false≢true (rw e at h))

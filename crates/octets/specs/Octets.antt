@@ -1,8 +1,9 @@
--- Octets: numbers as octets in either order, and results written into a lent buffer.
+-- Octets: numbers as octets in either order, results written into a lent buffer, and texts compared.
+use mathlib.Core.Bool.{Bool, true, false, _&&_}
 use mathlib.Core.List.{List, [], _∷_, _++_, reverse}
 use Prim.Native.Nat.{ℕ, zero, suc, _+_, _*_, _/_, _%_, _^_, _<_}
 use lib.ListN.{length, take, drop, getD}
-use lib.Dec.{leb}
+use lib.Dec.{eqb, leb}
 use Rattle.answer.specs.Answer.{pick}
 use Rattle.octets.specs.declared.Order.{Order}
 use Rattle.octets.specs.declared.Order.the-variants.{HighestFirst, LowestFirst}
@@ -62,6 +63,13 @@ writtenAt at result buffer = take at buffer ++ written result (drop at buffer)
 -- the first where the result has room, and otherwise the buffer as it was
 abbrev pub writtenIfRoom : (result buffer : List ℕ) → List ℕ
 writtenIfRoom result buffer = pick (leb (length result) (length buffer)) (written result buffer) buffer
+
+-- two texts are the same, octet by octet
+unfoldable pub equal : (a b : List ℕ) → Bool
+equal [] [] = true
+equal [] (y ∷ ys) = false
+equal (x ∷ xs) [] = false
+equal (x ∷ xs) (y ∷ ys) = eqb x y && equal xs ys
 
 -- the place in memory so many octets behind another: a block, and an octet in it
 abbrev pub onward : (n : ℕ) (place : ℕ × ℕ) → ℕ × ℕ

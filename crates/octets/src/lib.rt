@@ -1,9 +1,9 @@
-// Words of 32 bits and octets: sums and rotations of words, words as octets and back, copying.
+// Words of 32 bits and octets: sums and rotations of words, words as octets and back, copying, comparing.
 ghost use mathlib.Core.Path.{_≡_};
 ghost use mathlib.Core.List.{[], _∷_};
 ghost use Prim.Native.Nat.{_-_, min};
 ghost use lib.ListN.{length, take};
-ghost use Rattle.octets.specs.Octets.{octetsOf, fromBigEndian, wordsOf, written, writtenAt, writtenIfRoom};
+ghost use Rattle.octets.specs.Octets.{octetsOf, fromBigEndian, wordsOf, written, writtenAt, writtenIfRoom, equal};
 ghost use Rattle.octets.specs.Words.{_⊞_, rotl as rotatedLeft, rotr as rotatedRight};
 
 // The longest text of a digest, an HMAC or RC4, and the longest key of an HMAC (01, "Lengths").
@@ -118,6 +118,23 @@ pub fn copy_at(from: &[u8], at: usize, to: &mut [u8])
         return;
     }
     copy(from, &mut to[at..]);
+}
+
+// Whether two texts are the same. All octets are compared and their differences joined, so that the time does not tell where they are.
+pub fn same(a: &[u8], b: &[u8]) -> bool
+    ensures { λ r. ⌜ r ≡ equal (now (a .entry)) (now (b .entry)) ⌝ }
+{
+    let n = a.len();
+    if n != b.len() {
+        return false;
+    }
+    let mut difference = 0u8;
+    let mut i = 0;
+    while i < n {
+        difference = difference | (a[i] ^ b[i]);
+        i += 1;
+    }
+    difference == 0
 }
 
 // A word as four octets.

@@ -9,10 +9,10 @@ use lib.Dec.{eqb, ltb}
 use lib.ListN.{length, take, drop, getD, length-append, length-drop, take-append-drop}
 use lib.Seq.{length-take-le, take-append-add, drop-length, take-append-seam, drop-append-seam, drop-drop, getD-drop}
 use borrow.Author.Tests.{lt-ltb, le-ltb, ltb-true, ltb-false, eq-eqb, ne-eqb, eqb-true, not-false}
-use Rattle.answer.specs.Answer.{done, shape, size, firstOf}
+use Rattle.answer.specs.Answer.{done, shape, size, pick, firstOf, onDone}
 use Rattle.answer.specs.Laws.{clear, within, outside-none}
 use Rattle.octets.specs.Octets.{Octets}
-use Rattle.tape.specs.Tape.{firstOctet, shortestPacket, longestPacket, mostGroups, groups, withLow, lengthIn, reading, Contents, ended, behind, holding, onPacket, recordSize, recordOf, recordsOf, tapeOf, Writable, writeOut, placeRows, recordRows, recordRead, readAt, readOn, contents, ReadsBack, WritesNext}
+use Rattle.tape.specs.Tape.{firstOctet, shortestPacket, longestPacket, mostGroups, groups, withLow, lengthIn, Read, reading, Contents, ended, behind, holding, onPacket, recordSize, recordOf, recordsOf, tapeOf, Writable, writeOut, placeRows, lengthAt, packetAt, recordRows, recordRead, readAt, readOn, readFrom, contents, ReadsBack, WritesNext}
 
 -- groups in front of others
 pub low-some : (low high : ℕ) → 0 < high → withLow low high ≡ low + 128 * high
@@ -92,6 +92,9 @@ length-only (suc k) (g ∷ l) octets some = by (ltb g 128) refl (length-only k l
         rw (length-more k g l h) (more (lengthIn k l) h (rw (length-more k g l h) at some) ih)
 
 -- a packet is not empty
+cons-some : {x : ℕ} {xs : List ℕ} → x ∷ xs ≡ [] → ⊥
+cons-some e = omega (arith, ap (λ (l : List ℕ). length l) e)
+
 pub on-packet : {A : Type 0} (p : List ℕ) (some none : A) → shortestPacket ≤ length p → onPacket p some none ≡ some
 on-packet [] some none h = absurd (omega arith)
 on-packet (x ∷ xs) some none h = refl
@@ -251,6 +254,87 @@ module _ (k most : ℕ) (fits : most < 128 ^ k) where
           let (all, ahead, _, last) = ih (o + recordSize k (length p)) (omega arith) (rw step at e) in
           rw step ((outside-none shortestPacket most (length p) (fit .0) (fit .1), all), rw (← ahead, on) stands, first, last)
 
+  -- a read that gives a packet answers 0, moves on over its record, and not past the end
+  abbrev pub Moves : List ℕ → ℕ → Read → Type 0
+  Moves tape o r =
+      (r .packet ≡ [] → ⊥)
+      → (r .answer ≡ done) × (r .offset ≡ o + recordSize k (length (r .packet))) × (r .offset ≤ length tape) × Fit (r .packet)
+
+  pub read-moves : (tape : List ℕ) (o : ℕ) → Moves tape o (readAt k most tape o)
+  unfolding readAt recordRead
+  read-moves tape o some = place (firstOf (placeRows tape o)) refl some
+    where
+      here : (code : ℕ) → firstOf (recordRows k most tape o) ≡ code → o ≤ length tape
+          → Moves tape o (onDone code (reading done (packetAt k tape o) (o + recordSize k (lengthAt k tape o))) (reading code [] o))
+      here zero e high some =
+          let (inside, (whole, _)) = clear shape (recordRows k most tape o) refl e in
+          let n : ℕ = lengthAt k tape o in
+          let fit = within shortestPacket most n inside in
+          let enough = ltb-false (length tape - o) (recordSize k n) whole in
+          let size : length (packetAt k tape o) ≡ n =
+          length-take-le n (drop (o + length (groups k n)) tape) (omega (arith, length-drop (o + length (groups k n)) tape)) in
+          rw size (refl, refl, omega arith, fit)
+      here (suc c) e high some = absurd (some refl)
+
+      end : (t : Bool) → o ≤ length tape → Moves tape o (pick t (reading done [] o) (recordRead k most tape o))
+      end true high some = absurd (some refl)
+      end false high some = here (firstOf (recordRows k most tape o)) refl high some
+
+      place : (code : ℕ) → firstOf (placeRows tape o) ≡ code
+          → Moves tape o (onDone code (pick (eqb o (length tape)) (reading done [] o) (recordRead k most tape o)) (reading code [] 0))
+      place zero e some = end (eqb o (length tape)) (within 1 (length tape) o (clear size (placeRows tape o) refl e .0) .1) some
+      place (suc c) e some = absurd (some refl)
+
+  -- more reads than there are octets left change nothing ..
+  reads-enough : (n : ℕ) (tape : List ℕ) (o : ℕ) → length tape ≤ o + n → readOn k most (suc n) tape o ≡ readOn k most n tape o
+  unfolding readOn
+  reads-enough zero tape o enough = by (readAt k most tape o .packet) refl
+    where
+      by : (p : List ℕ) → readAt k most tape o .packet ≡ p → onPacket p (behind p (ended (readAt k most tape (readAt k most tape o .offset)))) (ended (readAt k most tape o)) ≡ ended (readAt k most tape o)
+      by [] e = refl
+      by (x ∷ xs) e = let (_, on, inside, fit) = read-moves tape o (λ z. cons-some (sym e ∙ z)) in absurd (omega (arith, fit .0))
+  reads-enough (suc n) tape o enough = by (readAt k most tape o .packet) refl (reads-enough n tape (readAt k most tape o .offset))
+    where
+      by : (p : List ℕ) → readAt k most tape o .packet ≡ p
+          → (length tape ≤ readAt k most tape o .offset + n → readOn k most (suc n) tape (readAt k most tape o .offset) ≡ readOn k most n tape (readAt k most tape o .offset))
+          → onPacket p (behind p (readOn k most (suc n) tape (readAt k most tape o .offset))) (ended (readAt k most tape o))
+          ≡ onPacket p (behind p (readOn k most n tape (readAt k most tape o .offset))) (ended (readAt k most tape o))
+      by [] e ih = refl
+      by (x ∷ xs) e ih =
+          let (_, on, inside, fit) = read-moves tape o (λ z. cons-some (sym e ∙ z)) in
+          rw (ih (omega (arith, fit .0)))
+
+  -- .. so reading on from an offset gives the packet there, and behind it what reading on gives; or it ends there
+  one-read : (n : ℕ) (tape : List ℕ) (o : ℕ) → (readAt k most tape o .packet ≡ [] → ⊥)
+      → readOn k most (suc n) tape o ≡ behind (readAt k most tape o .packet) (readOn k most n tape (readAt k most tape o .offset))
+  unfolding readOn
+  one-read n tape o some = by (readAt k most tape o .packet) some
+    where
+      rest : Contents
+      rest = readOn k most n tape (readAt k most tape o .offset)
+
+      by : (p : List ℕ) → (p ≡ [] → ⊥) → onPacket p (behind p rest) (ended (readAt k most tape o)) ≡ behind p rest
+      by [] some = absurd (some refl)
+      by (x ∷ xs) some = refl
+
+  pub reads-on : (tape : List ℕ) (o : ℕ) → (readAt k most tape o .packet ≡ [] → ⊥)
+      → readFrom k most tape o ≡ behind (readAt k most tape o .packet) (readFrom k most tape (readAt k most tape o .offset))
+  reads-on tape o some = by (length tape) refl
+    where
+      after : ℕ
+      after = readAt k most tape o .offset
+
+      by : (n : ℕ) → length tape ≡ n → readOn k most n tape o ≡ behind (readAt k most tape o .packet) (readOn k most n tape after)
+      by zero h = let (_, on, inside, fit) = read-moves tape o some in absurd (omega (arith, fit .0))
+      by (suc n) h =
+          let (_, on, inside, fit) = read-moves tape o some in
+          rw (reads-enough n tape after (omega (arith, fit .0))) (one-read n tape o some)
+
+  pub reads-none : (n : ℕ) (tape : List ℕ) (o : ℕ) → readAt k most tape o .packet ≡ [] → readOn k most n tape o ≡ ended (readAt k most tape o)
+  unfolding readOn
+  reads-none zero tape o e = refl
+  reads-none (suc n) tape o e = rw e
+
   -- there are fewer records than octets
   pub records-count : (ps : List (List ℕ)) → Writable most ps → length ps ≤ length (recordsOf k ps)
   unfolding Writable recordsOf recordOf
@@ -284,10 +368,15 @@ pub reads-back-base : ReadsBack mostGroups longestPacket
 reads-back-base = reads-back mostGroups longestPacket (omega arith)
 
 -- the records of two lists, one behind the other
-records-append : (k : ℕ) (a b : List (List ℕ)) → recordsOf k (a ++ b) ≡ recordsOf k a ++ recordsOf k b
+pub records-append : (k : ℕ) (a b : List (List ℕ)) → recordsOf k (a ++ b) ≡ recordsOf k a ++ recordsOf k b
 unfolding recordsOf
 records-append k [] b = refl
 records-append k (p ∷ a) b = rw (records-append k a b, append-assoc)
+
+pub writable-behind : (most : ℕ) (a b : List (List ℕ)) → Writable most (a ++ b) → Writable most b
+unfolding Writable
+writable-behind most [] b all = all
+writable-behind most (p ∷ a) b (fit, all) = writable-behind most a b all
 
 tape-more : (k : ℕ) (ps : List (List ℕ)) (p : List ℕ) → tapeOf k ps ++ recordOf k p ≡ tapeOf k (ps ++ (p ∷ []))
 unfolding tapeOf recordsOf

@@ -160,9 +160,13 @@ module _ (k most : ℕ) where
       let r : Read = readAt k most tape offset in
       onPacket (r .packet) (behind (r .packet) (readOn n tape (r .offset))) (ended r)
 
-  -- "offset, 1 at first": a tape has fewer records than octets
+  -- a tape has fewer records than octets
+  abbrev pub readFrom : (tape : List ℕ) (offset : ℕ) → Contents
+  readFrom tape offset = readOn (length tape) tape offset
+
+  -- "offset, 1 at first"
   unfoldable pub contents : (tape : List ℕ) → Contents
-  contents tape = readOn (length tape) tape 1
+  contents tape = readFrom tape 1
 
   -- "Each list's tape, and no other, reads back to it."
   unfoldable pub ReadsBack : Type 0
