@@ -7,13 +7,13 @@ use Prim.Native.Nat.{ℕ, zero, suc, _+_, _-_, _/_, _%_, _<_, _≤_}
 use native.Mathlib.Nat.{suc-ne-zero}
 use native.Mathlib.Omega.{arith}
 use lib.Dec.{eqb, ltb}
-use lib.ListN.{length, take, drop, getD, replicate, length-take}
+use lib.ListN.{length, take, drop, getD, replicate, length-take, length-drop}
 use lib.Seq.{take-append-seam, drop-append-seam}
 use borrow.Author.Tests.{lt-ltb, le-ltb, eq-eqb, ne-eqb, ltb-false, eqb-true, eqb-false, not-true}
 use Rattle.answer.specs.Answer.{done, flags, repeat, late, waiting, pick, outside, firstOf, onDone}
 use Rattle.answer.specs.Laws.{both, clear, never, not-done, rows-pass, rows-passed, within, outside-none}
 use Rattle.rc4.specs.declared.Rc4.{Rc4}
-use Rattle.rc4.specs.Cipher.{permutation, unkeyed, isUnkeyed, keySchedule, after}
+use Rattle.rc4.specs.Cipher.{permutation, unkeyed, isUnkeyed, keySchedule, run, after}
 use Rattle.rc4.specs.Permutation.{whole-permutation, permutation-whole, after-whole, keyed-whole, unkeyed-found, unkeyed-permutation}
 use Rattle.mppe_keys.specs.declared.Strength.{Strength}
 use Rattle.mppe_keys.specs.declared.Mode.{Mode}
@@ -21,7 +21,7 @@ use Rattle.mppe_keys.specs.declared.Mode.the-variants.{Stateless, Stateful}
 use Rattle.mppe_keys.specs.Keys.{keyLength, byMode, headOf, begins, keyChange, changes, placed}
 use Rattle.mppe_keys.specs.Laws.{key-least, head-most, keyChange-length, keyChange-head}
 use Rattle.mppe.specs.declared.Link.{Link}
-use Rattle.mppe.specs.Link.{shortestPlain, front, counts, newCount, zeros, boxFits, wellFormed, startKeyIn, linkOf, withBox, renewed, keptBox, keyFor, boxFor, stateFor, linkAfter, bitA, bitD, header, packetOn, headerIn, countOf, lacks, dataIn, distance, endings, changesOver, awayFor, changesFor, frontRows, dataRows, refusal, waited, openRows, openCode, openedBy, openResult}
+use Rattle.mppe.specs.Link.{shortestPlain, front, counts, newCount, zeros, boxFits, wellFormed, startKeyIn, linkOf, withBox, renewed, keptBox, keyFor, boxFor, stateFor, plainFor, linkAfter, bitA, bitD, header, packetOn, headerIn, countOf, lacks, dataIn, distance, endings, changesOver, awayFor, changesFor, frontRows, dataRows, refusal, waited, openRows, openCode, openedBy, openResult}
 
 -- zeros are zeros
 pub zeros-all : (n : ℕ) → zeros (replicate n 0) ≡ true
@@ -325,3 +325,53 @@ open-well limit far l packet out whole = go (openCode limit far l packet (length
     go : (code : ℕ) → openCode limit far l packet (length out) ≡ code → wellFormed (openedBy code l (headerIn packet) (dataIn packet) out .outcome .link) ≡ true
     go zero e = after-well l (headerIn packet) (dataIn packet) whole
     go (suc n) e = by (suc n) (eqb (suc n) waiting) e refl
+
+-- with room for the plain packet, the length of the lent buffer decides nothing ..
+pub open-room : (limit far : ℕ) (l : Link) (packet : List ℕ) (lent : ℕ) → length packet - front ≤ lent
+    → openCode limit far l packet lent ≡ openCode limit far l packet (length packet - front)
+unfolding openCode
+open-room limit far l packet lent h =
+    let long : length (dataIn packet) ≡ length packet - front = length-drop front packet in
+    rw (long, le-ltb lent (length packet - front) h, le-ltb (length packet - front) (length packet - front) (omega arith))
+
+-- .. and what is in it nothing of the outcome
+pub outcome-by : (code : ℕ) (l : Link) (h : ℕ) (text a b : List ℕ) → openedBy code l h text a .outcome ≡ openedBy code l h text b .outcome
+outcome-by zero l h text a b = refl
+outcome-by (suc n) l h text a b = by (eqb (suc n) waiting)
+  where
+    by : (t : Bool) → pick t (waited l h a) (refusal (suc n) l a) .outcome ≡ pick t (waited l h b) (refusal (suc n) l b) .outcome
+    by true = refl
+    by false = refl
+
+-- in stateless mode the front of a packet and its protocol octets decide all of the outcome
+pub open-front : (limit far : ℕ) (l : Link) (packet a b : List ℕ) → l .mode ≡ Stateless → outside (front + shortestPlain) (front + limit) (length packet) ≡ false
+    → length packet - front ≤ length a → shortestPlain ≤ length b
+    → openResult limit far l packet a .outcome ≡ openResult limit far l (take (front + shortestPlain) packet) b .outcome
+unfolding openResult openCode plainFor run
+open-front limit far l packet a b mode inside enough two =
+    let (low, high) = within (front + shortestPlain) (front + limit) (length packet) inside in by packet inside low high enough
+  where
+    own : (x y : Rc4) → keptBox l x ≡ keptBox l y
+    own x y = rw mode
+
+    texts : (code h : ℕ) (t t′ : List ℕ) → openedBy code l h t a .outcome ≡ openedBy code l h t′ b .outcome
+    texts zero h t t′ = rw (own (after (stateFor l h) t) (after (stateFor l h) t′))
+    texts (suc n) h t t′ = outcome-by (suc n) l h t a b
+
+    by : (p : List ℕ) → outside (front + shortestPlain) (front + limit) (length p) ≡ false → front + shortestPlain ≤ length p → length p ≤ front + limit
+        → length p - front ≤ length a
+        → openResult limit far l p a .outcome ≡ openResult limit far l (take (front + shortestPlain) p) b .outcome
+    by [] fit low high enough = absurd (omega arith)
+    by (p₁ ∷ []) fit low high enough = absurd (omega arith)
+    by (p₁ ∷ p₂ ∷ []) fit low high enough = absurd (omega arith)
+    by (p₁ ∷ p₂ ∷ p₃ ∷ []) fit low high enough = absurd (omega arith)
+    by (p₁ ∷ p₂ ∷ p₃ ∷ p₄ ∷ []) fit low high enough = absurd (omega arith)
+    by (p₁ ∷ p₂ ∷ p₃ ∷ p₄ ∷ p₅ ∷ []) fit low high enough = absurd (omega arith)
+    by (p₁ ∷ p₂ ∷ p₃ ∷ p₄ ∷ p₅ ∷ p₆ ∷ rest) fit low high enough =
+        let cut : List ℕ = p₁ ∷ p₂ ∷ p₃ ∷ p₄ ∷ p₅ ∷ p₆ ∷ [] in
+        let fit′ : outside (front + shortestPlain) (front + limit) (length cut) ≡ false = outside-none (front + shortestPlain) (front + limit) (length cut) (omega arith) (omega arith) in
+        let packet′ : List ℕ = p₁ ∷ p₂ ∷ p₃ ∷ p₄ ∷ p₅ ∷ p₆ ∷ rest in
+        let h : ℕ = headerIn packet′ in
+        let same : openCode limit far l packet′ (length a) ≡ openCode limit far l cut (length b) =
+        rw (fit, fit′, le-ltb (length a) (length (dataIn packet′)) (omega arith), le-ltb (length b) 2 two) in
+        ap (λ c. openedBy c l h (dataIn packet′) a .outcome) same ∙ texts (openCode limit far l cut (length b)) h (dataIn packet′) (dataIn cut)

@@ -214,15 +214,18 @@ writes-back octets all ok =
     rw (link, front, rest-back octets long mode mark) (take-append-drop 35 octets)
 
 -- a well-formed stateless record is read back from its first 35 octets alone, and what is read of them is written as them
-pub stateless-back : (l : Link) → Sized l → l .mode ≡ Stateless → wellFormed l ≡ true → statelessRead (frontOctets l) ≡ record { answer = done; link = l }
-unfolding statelessRead statelessIn frontOctets
-stateless-back l h mode well =
+pub statelessIn-back : (l : Link) → Sized l → l .mode ≡ Stateless → wellFormed l ≡ true → statelessIn (frontOctets l) ≡ l
+unfolding statelessIn
+statelessIn-back l h mode well =
     let fits : boxFits Stateless (l .state) (l .waiting) ≡ true = rw mode at (well-box l well) in
-    let unkeyed-box = unkeyed-is (l .state) (fits-unkeyed (l .state) (l .waiting) fits) in
+    let state = unkeyed-is (l .state) (fits-unkeyed (l .state) (l .waiting) fits) in
     let mark = fits-unmarked Stateless (l .state) (l .waiting) refl fits in
-    let back = frontIn-back l h [] Stateless unkeyed false in
-    rw (eq-eqb (length (frontOctets l)) frontLength (frontOctets-length l h), bits-known (l .strength))
-    (ap (λ t. record { answer = done; link = t }) (ap (λ t. frontIn t Stateless unkeyed false) (sym (append-nil (frontOctets l))) ∙ back ∙ rw (← mode, unkeyed-box, mark)))
+    ap (λ t. frontIn t Stateless unkeyed false) (sym (append-nil (frontOctets l))) ∙ frontIn-back l h [] Stateless unkeyed false ∙ rw (← mode, state, mark)
+
+pub stateless-back : (l : Link) → Sized l → l .mode ≡ Stateless → wellFormed l ≡ true → statelessRead (frontOctets l) ≡ record { answer = done; link = l }
+unfolding statelessRead frontOctets
+stateless-back l h mode well =
+    rw (eq-eqb (length (frontOctets l)) frontLength (frontOctets-length l h), bits-known (l .strength), statelessIn-back l h mode well)
 
 pub stateless-writes : (octets : List ℕ) → Octets octets → statelessRead octets .answer ≡ done → frontOctets (statelessRead octets .link) ≡ octets
 unfolding statelessRead statelessIn

@@ -1,0 +1,44 @@
+use borrow.Author.Needs.{needs}
+use Rattle.marks.proofs.agreed.Statement.{statement}
+use Rattle.marks.proofs.agreed.Tie as tie
+use Rattle.marks.proofs.agreed.Reads as reads
+use Rattle.marks.proofs.agreed.Lts as lts
+use Rattle.marks.proofs.mark_octets.Reads as mark-octets-reads
+use Rattle.marks.proofs.stands_at.Reads as stands-at-reads
+
+add-if1 : tie.Need-add-if1
+add-if1 c = search needs
+
+returns : tie.Need-returns
+returns c = ?
+
+mark-octets-requires : tie.Need-mark-octets-requires
+mark-octets-requires c κs = search needs
+
+slice-aggregate-stands-at : tie.Need-slice-aggregate-stands-at
+slice-aggregate-stands-at c = search needs
+
+mul-stands-at : tie.Need-mul-stands-at
+mul-stands-at c = search needs
+
+stands-at-requires : tie.Need-stands-at-requires
+stands-at-requires c κs = search needs
+
+returns-2 : tie.Need-returns-2
+returns-2 c = ?
+
+returns-3 : tie.Need-returns-3
+returns-3 c = ?
+
+pub agreed-spec : {M : Type 1} → statement M
+agreed-spec =
+    tie.close
+    (tie.spec
+    add-if1
+    returns
+    mark-octets-requires
+    slice-aggregate-stands-at
+    mul-stands-at
+    stands-at-requires
+    returns-2
+    returns-3)

@@ -1,0 +1,25 @@
+use borrow.Author.Needs.{needs}
+use Rattle.marks.proofs.outcome_of.Statement.{statement}
+use Rattle.marks.proofs.outcome_of.Tie as tie
+use Rattle.marks.proofs.outcome_of.Reads as reads
+use Rattle.marks.proofs.outcome_of.Lts as lts
+use Rattle.mppe.proofs.Link.open.Reads as open-reads
+
+add-open : tie.Need-add-open
+add-open c = search needs
+
+slice-aggregate-open : tie.Need-slice-aggregate-open
+slice-aggregate-open c = ?
+
+slice-aggregate-open-2 : tie.Need-slice-aggregate-open-2
+slice-aggregate-open-2 c = search needs
+
+open-requires : tie.Need-open-requires
+open-requires c κs = search needs
+
+returns : tie.Need-returns
+returns c = ?
+
+pub outcome-of-spec : {M : Type 1} → statement M
+outcome-of-spec =
+    tie.close (tie.spec add-open slice-aggregate-open slice-aggregate-open-2 open-requires returns)

@@ -1,0 +1,86 @@
+use borrow.Author.Needs.{needs}
+use Rattle.marks.proofs.read.Statement.{statement}
+use Rattle.marks.proofs.read.Tie as tie
+use Rattle.marks.proofs.read.Reads as reads
+use Rattle.marks.proofs.read.Lts as lts
+use Rattle.marks.proofs.long.Reads as long-reads
+use Rattle.marks.proofs.no_mark.Reads as no-mark-reads
+use Rattle.mppe.proofs.well_formed.Reads as well-formed-reads
+use Rattle.mppe_record.proofs.read_stateless.Reads as read-stateless-reads
+
+no-mark-requires : tie.Need-no-mark-requires
+no-mark-requires c κs = search needs
+
+returns : tie.Need-returns
+returns c = ?
+
+sub-read-stateless : tie.Need-sub-read-stateless
+sub-read-stateless c = search needs
+
+part-read-stateless-start : tie.Need-part-read-stateless-start
+part-read-stateless-start c = search needs
+
+part-read-stateless-end : tie.Need-part-read-stateless-end
+part-read-stateless-end c = search needs
+
+read-stateless-requires : tie.Need-read-stateless-requires
+read-stateless-requires c κs = search needs
+
+no-mark-requires-2 : tie.Need-no-mark-requires-2
+no-mark-requires-2 c κs = search needs
+
+returns-2 : tie.Need-returns-2
+returns-2 c = ?
+
+well-formed-requires : tie.Need-well-formed-requires
+well-formed-requires c κs = search needs
+
+no-mark-requires-3 : tie.Need-no-mark-requires-3
+no-mark-requires-3 c κs = search needs
+
+returns-3 : tie.Need-returns-3
+returns-3 c = ?
+
+slice-aggregate-long : tie.Need-slice-aggregate-long
+slice-aggregate-long c = ?
+
+long-requires : tie.Need-long-requires
+long-requires c κs = ?
+
+sub-long : tie.Need-sub-long
+sub-long c = search needs
+
+part-long-start : tie.Need-part-long-start
+part-long-start c = search needs
+
+part-long-end : tie.Need-part-long-end
+part-long-end c = search needs
+
+long-requires-2 : tie.Need-long-requires-2
+long-requires-2 c κs = search needs
+
+returns-4 : tie.Need-returns-4
+returns-4 c = ?
+
+pub read-spec : {M : Type 1} → statement M
+read-spec =
+    tie.close
+    (tie.spec
+    no-mark-requires
+    returns
+    sub-read-stateless
+    part-read-stateless-start
+    part-read-stateless-end
+    read-stateless-requires
+    no-mark-requires-2
+    returns-2
+    well-formed-requires
+    no-mark-requires-3
+    returns-3
+    slice-aggregate-long
+    long-requires
+    sub-long
+    part-long-start
+    part-long-end
+    long-requires-2
+    returns-4)
