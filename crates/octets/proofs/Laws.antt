@@ -160,14 +160,3 @@ compared a b d i e ha hb = difference d (getD a i 0) (getD b i 0) ∙ rw (e, add
 
 pub compared-all : (a b : List ℕ) (d i : ℕ) → eqb d 0 ≡ equal (take i a) (take i b) → length a ≡ length b → length a ≤ i → eqb d 0 ≡ equal a b
 compared-all a b d i e same all = rw (take-all i a all, take-all i b (omega arith)) at e
-
-pub lengths-differ : (a b : List ℕ) → (length a ≡ length b → ⊥) → false ≡ equal a b
-unfolding equal
-lengths-differ [] [] h = absurd (h refl)
-lengths-differ [] (y ∷ ys) h = refl
-lengths-differ (x ∷ xs) [] h = refl
-lengths-differ (x ∷ xs) (y ∷ ys) h = by (eqb x y) (lengths-differ xs ys (λ e. h (ap suc e)))
-  where
-    by : (t : Bool) → false ≡ equal xs ys → false ≡ (t && equal xs ys)
-    by true e = e
-    by false e = refl

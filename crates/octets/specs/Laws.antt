@@ -103,3 +103,10 @@ equal-true (x ∷ xs) (y ∷ ys) h = go (eqb x y) refl (equal-true xs ys)
     go : (t : Bool) → eqb x y ≡ t → (equal xs ys ≡ true → xs ≡ ys) → x ∷ xs ≡ y ∷ ys
     go true e rest = rw (eqb-true x y e, rest (rw e at h))
     go false e rest = absurd (false≢true (rw e at h))
+
+pub equal-lengths : (a b : List ℕ) → (length a ≡ length b → ⊥) → false ≡ equal a b
+equal-lengths a b h = by (equal a b) refl
+  where
+    by : (t : Bool) → equal a b ≡ t → false ≡ t
+    by true e = absurd (h (ap length (equal-true a b e)))
+    by false e = refl

@@ -5,7 +5,8 @@ use lib.Dec.{eqb}
 use lib.ListN.{length, take}
 use borrow.Author.Needs.{needs}
 use Rattle.octets.specs.Octets.{equal}
-use Rattle.octets.proofs.Laws.{compared, compared-all, lengths-differ}
+use Rattle.octets.specs.Laws.{equal-lengths}
+use Rattle.octets.proofs.Laws.{compared, compared-all}
 use Rattle.octets.proofs.same.Statement.{statement}
 use Rattle.octets.proofs.same.Tie as tie
 
@@ -16,7 +17,7 @@ abbrev μ-loop : tie.MeasureT-loop
 μ-loop a b n difference₀ i₀ difference i = length a - i
 
 returns : tie.Need-returns Inv-loop μ-loop
-returns c = let s = c .before .args in lengths-differ (s .a .now) (s .b .now) (c .if1 .taken)
+returns c = let s = c .before .args in equal-lengths (s .a .now) (s .b .now) (c .if1 .taken)
 
 loop-holds : tie.Need-loop-holds Inv-loop μ-loop
 unfolding equal
