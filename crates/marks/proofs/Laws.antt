@@ -13,12 +13,13 @@ use Rattle.answer.specs.Answer.{done, size, notRecord, pick, outside, firstOf, 
 use Rattle.answer.specs.Laws.{outside-none}
 use Rattle.octets.specs.Octets.{bigEndian, fromBigEndian, written, writtenAt, equal}
 use Rattle.octets.specs.Laws.{append-more, copy-fits, written-more, equal-lengths, equal-same, equal-true}
+use Rattle.mppe_keys.specs.declared.Strength.the-variants.{Bits40}
 use Rattle.mppe_keys.specs.declared.Mode.{Mode}
 use Rattle.mppe_keys.specs.declared.Mode.the-variants.{Stateless, Stateful}
 use Rattle.mppe_keys.specs.Keys.{byMode}
 use Rattle.mppe.specs.declared.Link.{Link}
 use Rattle.mppe.specs.declared.Outcome.{Outcome}
-use Rattle.mppe.specs.Link.{front, shortestPlain, wellFormed, openResult}
+use Rattle.mppe.specs.Link.{front, shortestPlain, wellFormed, noLink, openResult}
 use Rattle.mppe.specs.Laws.{open-front}
 use Rattle.mppe_record.specs.declared.RecordRead.{RecordRead}
 use Rattle.mppe_record.specs.Record.{noStrength, frontOctets, noRecord, frontLength, statelessIn, statelessRead}
@@ -80,17 +81,24 @@ packet-none : (p : List ℕ) → onPacket p true false ≡ false → p ≡ []
 packet-none [] h = refl
 packet-none (x ∷ p) h = absurd (true≢false h)
 
+-- it has the length of one
+pub packet-fits : {packet : List ℕ} (k limit : ℕ) → front + limit < 128 ^ k → (tape : List ℕ) (o : ℕ) → onPacket (readAt k (front + limit) tape o .packet) true false ≡ true
+    → packet ≡ readAt k (front + limit) tape o .packet → outside shortestPacket (front + limit) (length packet) ≡ false
+packet-fits {packet} k limit fits tape o some e =
+    let (_, _, _, fit) = read-moves k (front + limit) fits tape o (packet-some _ some) in
+    let size : length packet ≡ length (readAt k (front + limit) tape o .packet) = ap length e in
+    outside-none shortestPacket (front + limit) (length packet) (omega (arith, fit .0)) (omega (arith, fit .1))
+
 -- a walk behind the packet at its offset
-pub advances : {next : Next} {o : Outcome} {count : ℕ} (k limit far : ℕ) → front + limit < 128 ^ k → (m : Mark) (tape : List ℕ)
+pub advances : {next : Next} {packet : List ℕ} {o : Outcome} {count : ℕ} (k limit far : ℕ) → front + limit < 128 ^ k → (m : Mark) (tape : List ℕ)
     → onPacket (readAt k (front + limit) tape (m .offset) .packet) true false ≡ true → next ≡ nextOf (readAt k (front + limit) tape (m .offset))
-    → (let packet : List ℕ = readAt k (front + limit) tape (m .offset) .packet in
-    o ≡ openResult limit far (m .link) packet (replicate (length packet - front) 0) .outcome)
+    → packet ≡ readAt k (front + limit) tape (m .offset) .packet → o ≡ openResult limit far (m .link) packet (replicate (length packet - front) 0) .outcome
     → count ≡ onDone (o .answer) (suc (m .opened)) (m .opened)
     → _≡_ {A = Mark} (record { opened = count; offset = next .offset; link = o .link }) (onward k limit far m (readAt k (front + limit) tape (m .offset) .packet))
 unfolding onward opened nextOf
-advances k limit far fits m tape some en eo ec =
+advances k limit far fits m tape some en ep eo ec =
     let (_, on, _, _) = read-moves k (front + limit) fits tape (m .offset) (packet-some _ some) in
-    rw (ec, eo, en, on)
+    rw (ec, eo, ep, en, on)
 
 -- a mark as octets
 pub mark-laid : {opened offset front t₁ t₂ t₃ : List ℕ} (m : Mark) → opened ≡ bigEndian 8 (m .opened) → offset ≡ bigEndian 8 (m .offset)
@@ -119,6 +127,12 @@ pub beyond-list : (octets marks : List ℕ) (at : ℕ) → length octets ≡ mar
     → false ≡ equal octets (take markLength (drop at marks))
 beyond-list octets marks at h short =
     equal-lengths octets (take markLength (drop at marks)) (λ e. omega (arith, h, e, length-take markLength (drop at marks), length-drop at marks))
+
+pub stands-is : {t : Bool} (octets marks : List ℕ) (at : ℕ) → t ≡ equal octets (take (at + markLength - at) (drop at marks))
+    → t ≡ equal octets (take markLength (drop at marks))
+stands-is octets marks at e =
+    let size : at + markLength - at ≡ markLength = omega arith in
+    e ∙ ap (λ n. equal octets (take n (drop at marks))) size
 
 -- one more that agrees, or not
 pub agreed-early : (m : Mark) (marks : List ℕ) (n : ℕ) → (n + 1 ≡ m .opened / every → ⊥) → n ≡ agreedOn m marks n
@@ -150,6 +164,11 @@ long-is (a ∷ b ∷ c ∷ d ∷ e ∷ f ∷ []) h eh el = absurd (omega arith)
 long-is (a ∷ b ∷ c ∷ d ∷ e ∷ f ∷ g ∷ []) h eh el = absurd (omega arith)
 long-is (a ∷ b ∷ c ∷ d ∷ e ∷ f ∷ g ∷ i ∷ []) h eh el = rw (eh, el) (omega arith)
 long-is (a ∷ b ∷ c ∷ d ∷ e ∷ f ∷ g ∷ i ∷ x ∷ xs) h eh el = absurd (omega arith)
+
+-- no mark
+pub no-mark-is : {l : Link} (code : ℕ) → l ≡ noLink Bits40 Stateless
+    → _≡_ {A = MarkRead} (record { answer = code; mark = record { opened = 0; offset = 0; link = l } }) (record { answer = code; mark = noMark })
+no-mark-is code e = rw e
 
 -- octets that hold no mark, by their number, their strength and their record, and octets that hold one
 pub mark-size : {r : MarkRead} (octets : List ℕ) → (length octets ≡ markLength → ⊥) → r ≡ record { answer = size; mark = noMark } → r ≡ markRead octets

@@ -1,3 +1,4 @@
+use Rattle.marks.proofs.Laws.{packet-there}
 use borrow.Author.Needs.{needs}
 use Rattle.marks.proofs.has_packet.Statement.{statement}
 use Rattle.marks.proofs.has_packet.Tie as tie
@@ -9,7 +10,7 @@ packet-requires : tie.Need-packet-requires
 packet-requires c κs = search needs
 
 returns : tie.Need-returns
-returns c = ?
+returns c = packet-there _ (c .packet .ensures .0)
 
 pub has-packet-spec : {M : Type 1} → statement M
 has-packet-spec = tie.close (tie.spec packet-requires returns)

@@ -1,3 +1,4 @@
+use Rattle.marks.proofs.Laws.{long-is}
 use borrow.Author.Needs.{needs}
 use Rattle.marks.proofs.long.Statement.{statement}
 use Rattle.marks.proofs.long.Tie as tie
@@ -48,7 +49,10 @@ add-result : tie.Need-add-result
 add-result c = search needs
 
 returns : tie.Need-returns
-returns c = ?
+returns c =
+    let first = c .before .before .before .before .before in
+    let a = first .before .before .before .before .before .before in
+    long-is (a .args .octets .now) (a .pre) (first .word .ensures) (c .word2 .ensures)
 
 pub long-spec : {M : Type 1} → statement M
 long-spec =

@@ -1,3 +1,4 @@
+use Rattle.marks.proofs.Laws.{mark-laid}
 use borrow.Author.Needs.{needs}
 use Rattle.marks.proofs.mark_octets.Statement.{statement}
 use Rattle.marks.proofs.mark_octets.Tie as tie
@@ -45,7 +46,12 @@ copy-at-requires-2 : tie.Need-copy-at-requires-2
 copy-at-requires-2 c κs = search needs
 
 returns : tie.Need-returns
-returns c = ?
+returns c =
+    let last = c .before in
+    let placed = last .before .before .before .before in
+    let first = placed .before .before .before .before in
+    let front = first .before .before .before in
+    mark-laid _ (front .before .before .long-octets .ensures) (front .before .long-octets2 .ensures) (front .front-octets .ensures) (first .copy .ensures) (placed .copy-at .ensures) (last .copy-at2 .ensures)
 
 pub mark-octets-spec : {M : Type 1} → statement M
 mark-octets-spec =

@@ -1,3 +1,6 @@
+use Prim.Native.Nat.{_*_, _-_, _/_}
+use native.Mathlib.Omega.{arith}
+use Rattle.marks.proofs.Laws.{mark-put}
 use borrow.Author.Needs.{needs}
 use Rattle.marks.proofs.put_mark.Statement.{statement}
 use Rattle.marks.proofs.put_mark.Tie as tie
@@ -25,7 +28,11 @@ same-length : tie.Need-same-length
 same-length c = search needs
 
 returns : tie.Need-returns
-returns c = ?
+returns c =
+    let copied = c .before .before in
+    let made = copied .before .before .before in
+    let a = made .before .before .before in
+    mark-put (a .args .mark) (51 * (a .args .mark .opened / 256 - 1)) (a .args .out .now) (made .mark-octets .ensures) (omega (arith, a .pre .0, a .pre .1)) (copied .copy-at .ensures)
 
 pub put-mark-spec : {M : Type 1} → statement M
 put-mark-spec =

@@ -1,3 +1,7 @@
+use mathlib.Core.Path.{sym}
+use native.Mathlib.Omega.{arith}
+use Rattle.octets.specs.Laws.{count}
+use Rattle.marks.proofs.Laws.{mark-size, mark-weak, mark-ill, mark-held}
 use borrow.Author.Needs.{needs}
 use Rattle.marks.proofs.read.Statement.{statement}
 use Rattle.marks.proofs.read.Tie as tie
@@ -12,7 +16,7 @@ no-mark-requires : tie.Need-no-mark-requires
 no-mark-requires c κs = search needs
 
 returns : tie.Need-returns
-returns c = ?
+returns c = mark-size _ (c .before .if1 .taken) (c .no-mark .ensures)
 
 sub-read-stateless : tie.Need-sub-read-stateless
 sub-read-stateless c = search needs
@@ -30,7 +34,9 @@ no-mark-requires-2 : tie.Need-no-mark-requires-2
 no-mark-requires-2 c κs = search needs
 
 returns-2 : tie.Need-returns-2
-returns-2 c = ?
+returns-2 c =
+    let held = c .before .before .before .before in
+    mark-weak _ (held .before .before .if1 .left) (held .read-stateless .ensures) (c .before .if2 .taken) (c .no-mark2 .ensures)
 
 well-formed-requires : tie.Need-well-formed-requires
 well-formed-requires c κs = search needs
@@ -39,13 +45,22 @@ no-mark-requires-3 : tie.Need-no-mark-requires-3
 no-mark-requires-3 c κs = search needs
 
 returns-3 : tie.Need-returns-3
-returns-3 c = ?
+returns-3 c =
+    let tested = c .before .before in
+    let held = tested .before .before .before .before in
+    mark-ill _ (held .before .before .if1 .left) (held .read-stateless .ensures) (tested .before .if2 .left) (tested .well-formed .ensures) (c .before .if3 .taken) (c .no-mark3 .ensures)
 
 slice-aggregate-long : tie.Need-slice-aggregate-long
-slice-aggregate-long c = ?
+slice-aggregate-long c =
+    let held = c .before .before .before .before .before .before in
+    let first = held .before .before in
+    count 8 (first .before .before .args .octets .now) (omega (arith, first .if1 .left))
 
 long-requires : tie.Need-long-requires
-long-requires c κs = ?
+long-requires c κs =
+    let held = c .before .before .before .before .before .before in
+    let first = held .before .before in
+    sym (count 8 (first .before .before .args .octets .now) (omega (arith, first .if1 .left)))
 
 sub-long : tie.Need-sub-long
 sub-long c = search needs
@@ -60,7 +75,12 @@ long-requires-2 : tie.Need-long-requires-2
 long-requires-2 c κs = search needs
 
 returns-4 : tie.Need-returns-4
-returns-4 c = ?
+returns-4 c =
+    let one = c .before .before in
+    let fine = one .before .before in
+    let tested = fine .before in
+    let held = tested .before .before .before .before in
+    mark-held _ (held .before .before .if1 .left) (held .read-stateless .ensures) (tested .before .if2 .left) (tested .well-formed .ensures) (fine .if3 .left) (one .long .ensures) (c .long2 .ensures)
 
 pub read-spec : {M : Type 1} → statement M
 read-spec =

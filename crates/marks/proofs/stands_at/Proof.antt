@@ -1,3 +1,5 @@
+use native.Mathlib.Omega.{arith}
+use Rattle.marks.proofs.Laws.{beyond-list, stands-is}
 use borrow.Author.Needs.{needs}
 use Rattle.marks.proofs.stands_at.Statement.{statement}
 use Rattle.marks.proofs.stands_at.Tie as tie
@@ -9,7 +11,9 @@ add-end : tie.Need-add-end
 add-end c = search needs
 
 returns : tie.Need-returns
-returns c = ?
+returns c =
+    let a = c .before .before .before in
+    beyond-list (a .args .octets .now) (a .args .marks .now) (a .args .at) (a .pre .0) (c .if1 .taken)
 
 sub-same : tie.Need-sub-same
 sub-same c = search needs
@@ -24,7 +28,7 @@ same-requires : tie.Need-same-requires
 same-requires c κs = search needs
 
 returns-2 : tie.Need-returns-2
-returns-2 c = ?
+returns-2 c = stands-is _ _ _ (c .same .ensures)
 
 pub stands-at-spec : {M : Type 1} → statement M
 stands-at-spec =
