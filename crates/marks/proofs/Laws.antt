@@ -5,12 +5,12 @@ use mathlib.Core.List.{List, [], _∷_, _++_, append-assoc, append-nil}
 use Prim.Native.Nat.{ℕ, zero, suc, _+_, _*_, _-_, _/_, _%_, _^_, _<_, _≤_}
 use native.Mathlib.Numerals.{add-one}
 use native.Mathlib.Omega.{arith}
-use lib.Dec.{eqb, ltb, eqb·suc-zero}
+use lib.Dec.{eqb, ltb, eqb·suc-zero, eqb·suc-suc}
 use lib.ListN.{length, take, drop, getD, replicate, length-append, length-drop, length-take, length-replicate}
 use lib.Seq.{length-take-le, take-all, getD-drop, drop-drop}
 use borrow.Author.Tests.{eq-eqb, ne-eqb, lt-ltb, le-ltb, eqb-true, ltb-true, ltb-false, not-true, not-false}
 use Rattle.answer.specs.Answer.{done, size, notRecord, pick, outside, firstOf, onDone}
-use Rattle.answer.specs.Laws.{outside-none}
+use Rattle.answer.specs.Laws.{outside-none, test-under}
 use Rattle.octets.specs.Octets.{bigEndian, fromBigEndian, written, writtenAt, equal}
 use Rattle.octets.specs.Laws.{append-more, copy-fits, written-more, equal-lengths, equal-same, equal-true}
 use Rattle.mppe_keys.specs.declared.Strength.the-variants.{Bits40}
@@ -19,14 +19,14 @@ use Rattle.mppe_keys.specs.declared.Mode.the-variants.{Stateless, Stateful}
 use Rattle.mppe_keys.specs.Keys.{byMode}
 use Rattle.mppe.specs.declared.Link.{Link}
 use Rattle.mppe.specs.declared.Outcome.{Outcome}
-use Rattle.mppe.specs.Link.{front, shortestPlain, wellFormed, noLink, openResult}
+use Rattle.mppe.specs.Link.{front, shortestPlain, longestPlain, farthest, wellFormed, noLink, openResult}
 use Rattle.mppe.specs.Laws.{open-front}
 use Rattle.mppe_record.specs.declared.RecordRead.{RecordRead}
 use Rattle.mppe_record.specs.Record.{noStrength, frontOctets, noRecord, frontLength, statelessIn, statelessRead}
 use Rattle.mppe_record.specs.Laws.{Sized}
 use Rattle.tape.specs.declared.Next.{Next}
 use Rattle.tape.specs.declared.Written.{Written}
-use Rattle.tape.specs.Tape.{shortestPacket, Read, Contents, behind, recordSize, onPacket, nextOf, readAt, readFrom, contents}
+use Rattle.tape.specs.Tape.{shortestPacket, longestPacket, mostGroups, Read, Contents, behind, recordSize, onPacket, nextOf, readAt, readFrom, contents}
 use Rattle.tape.specs.Laws.{read-moves, reads-on, reads-none}
 use Rattle.marks.specs.declared.Mark.{Mark}
 use Rattle.marks.specs.declared.MarkRead.{MarkRead}
@@ -34,7 +34,7 @@ use Rattle.marks.specs.declared.Checked.{Checked}
 use Rattle.marks.specs.declared.Found.{Found}
 use Rattle.marks.specs.Marks.{every, markLength, markOctets, marksOctets, markIn, noMark, markRead, startAt, agreeing, opened, onward, kept, marksFrom, marksOf, walkRows, writeCode, writeAnswer, writeOut, checked}
 use Rattle.marks.specs.Inner.{Begins, found, agreedOn}
-use Rattle.marks.specs.Laws.{Whole, mark-length, octets-append, onward-whole, onward-opened, kept-is, kept-count, marks-length}
+use Rattle.marks.specs.Laws.{Whole, mark-length, octets-append, onward-whole, onward-opened, kept-is, kept-count, WholeOctets, whole-none, whole-append, kept-whole, marks-length}
 
 -- one more, or not
 pub counted-done : (code n : ℕ) → code ≡ done → n + 1 ≡ onDone code (suc n) n
@@ -224,25 +224,25 @@ module _ {held : RecordRead} (octets : List ℕ) (h : length octets ≡ markLeng
 
 -- the walk of the loops: the marks done, and those that the rest of the tape gives
 module _ (k limit far : ℕ) (fits : front + limit < 128 ^ k) (start : Link) (tape : List ℕ) where
-  pub record Walks (at : Mark) : Type 0 where
-    pub done-marks : List Mark
-    pub marks : marksOf k limit far start tape ≡ done-marks ++ marksFrom k limit far at (readFrom k (front + limit) tape (at .offset) .packets)
+  pub record Walks (at : Mark) (ms : List Mark) : Type 0 where
+    pub marks : marksOf k limit far start tape ≡ ms ++ marksFrom k limit far at (readFrom k (front + limit) tape (at .offset) .packets)
     pub answer : contents k (front + limit) tape .answer ≡ readFrom k (front + limit) tape (at .offset) .answer
-    pub number : length done-marks ≡ at .opened / every
+    pub number : length ms ≡ at .opened / every
+    pub octets : WholeOctets ms
     pub few : at .opened < at .offset
     pub near : at .offset ≤ suc (length tape)
     pub whole : Whole (at .link)
 
-  pub walks-first : Whole start → Walks (startAt start)
+  pub walks-first : Whole start → Walks (startAt start) []
   unfolding marksOf contents
-  walks-first whole = record { done-marks = []; marks = refl; answer = refl; number = refl; few = omega arith; near = omega arith; whole = whole }
+  walks-first whole = record { marks = refl; answer = refl; number = refl; octets = whole-none; few = omega arith; near = omega arith; whole = whole }
 
   -- a packet further
-  pub walks-next : (at : Mark) → Walks at → onPacket (readAt k (front + limit) tape (at .offset) .packet) true false ≡ true
+  pub walks-next : (at : Mark) (ms : List Mark) → Walks at ms → onPacket (readAt k (front + limit) tape (at .offset) .packet) true false ≡ true
       → (let next : Mark = onward k limit far at (readAt k (front + limit) tape (at .offset) .packet) in
-      Walks next × (at .offset < next .offset) × (next .offset ≤ length tape))
+      Walks next (ms ++ kept k limit far at (readAt k (front + limit) tape (at .offset) .packet)) × (at .offset < next .offset) × (next .offset ≤ length tape))
   unfolding marksFrom
-  walks-next at w some =
+  walks-next at ms w some =
       let r : Read = readAt k (front + limit) tape (at .offset) in
       let next : Mark = onward k limit far at (r .packet) in
       let there = packet-some (r .packet) some in
@@ -252,11 +252,11 @@ module _ (k limit far : ℕ) (fits : front + limit < 128 ^ k) (start : Link) (ta
       reads-on k (front + limit) fits tape (at .offset) there ∙ ap (λ o. behind (r .packet) (readFrom k (front + limit) tape o)) (sym place) in
       let (_, high) = onward-opened k limit far at (r .packet) in (
         record {
-          done-marks = w .done-marks ++ kept k limit far at (r .packet);
-          marks = w .marks ∙ ap (λ c. w .done-marks ++ marksFrom k limit far at (c .packets)) rest
-              ∙ sym (append-assoc (w .done-marks) (kept k limit far at (r .packet)) (marksFrom k limit far next (readFrom k (front + limit) tape (next .offset) .packets)));
+          marks = w .marks ∙ ap (λ c. ms ++ marksFrom k limit far at (c .packets)) rest
+              ∙ sym (append-assoc (ms) (kept k limit far at (r .packet)) (marksFrom k limit far next (readFrom k (front + limit) tape (next .offset) .packets)));
           answer = w .answer ∙ ap (λ c. c .answer) rest;
-          number = length-append (w .done-marks) (kept k limit far at (r .packet)) ∙ omega (arith, w .number, kept-count k limit far at (r .packet));
+          number = length-append (ms) (kept k limit far at (r .packet)) ∙ omega (arith, w .number, kept-count k limit far at (r .packet));
+          octets = whole-append ms (kept k limit far at (r .packet)) (w .octets) (kept-whole k limit far at (r .packet) (w .whole));
           few = omega (arith, w .few, place, on, fit .0, high);
           near = omega (arith, place, inside);
           whole = onward-whole k limit far at (r .packet) (w .whole);
@@ -266,11 +266,183 @@ module _ (k limit far : ℕ) (fits : front + limit < 128 ^ k) (start : Link) (ta
       )
 
   -- and where there is none
-  pub walks-last : (at : Mark) → (w : Walks at) → onPacket (readAt k (front + limit) tape (at .offset) .packet) true false ≡ false
-      → (marksOf k limit far start tape ≡ w .done-marks) × (contents k (front + limit) tape .answer ≡ readAt k (front + limit) tape (at .offset) .answer)
+  pub walks-last : (at : Mark) (ms : List Mark) → Walks at ms → onPacket (readAt k (front + limit) tape (at .offset) .packet) true false ≡ false
+      → (marksOf k limit far start tape ≡ ms) × (contents k (front + limit) tape .answer ≡ readAt k (front + limit) tape (at .offset) .answer)
   unfolding marksFrom
-  walks-last at w none =
+  walks-last at ms w none =
       let end = reads-none k (front + limit) fits (length tape) tape (at .offset) (packet-none _ none) in (
-        w .marks ∙ ap (λ c. w .done-marks ++ marksFrom k limit far at (c .packets)) end ∙ append-nil (w .done-marks),
+        w .marks ∙ ap (λ c. ms ++ marksFrom k limit far at (c .packets)) end ∙ append-nil (ms),
         w .answer ∙ ap (λ c. c .answer) end,
       )
+
+-- the limits in force
+pub fits : front + longestPlain < 128 ^ mostGroups
+fits = omega arith
+
+-- how many agree: not more than there are, and one more by the next
+agreeing-most : (ms : List Mark) (octets : List ℕ) → agreeing ms octets ≤ length ms
+unfolding agreeing
+agreeing-most [] octets = omega arith
+agreeing-most (m ∷ ms) octets = by (equal (markOctets m) (take markLength octets)) (agreeing-most ms (drop markLength octets))
+  where
+    by : (t : Bool) {n : ℕ} → n ≤ length ms → pick t (suc n) 0 ≤ suc (length ms)
+    by true h = omega arith
+    by false h = omega arith
+
+agreeing-next : (ms : List Mark) (m : Mark) (octets : List ℕ)
+    → agreeing (ms ++ (m ∷ [])) octets
+    ≡ pick (eqb (agreeing ms octets) (length ms) && equal (markOctets m) (take markLength (drop (markLength * agreeing ms octets) octets)))
+    (suc (agreeing ms octets)) (agreeing ms octets)
+unfolding agreeing
+agreeing-next [] m octets = refl
+agreeing-next (d ∷ ms) m octets =
+    by (equal (markOctets d) (take markLength octets)) (agreeing ms (drop markLength octets)) (agreeing (ms ++ (m ∷ [])) (drop markLength octets))
+    (agreeing-next ms m (drop markLength octets))
+  where
+    place : (n : ℕ) → drop (markLength * n) (drop markLength octets) ≡ drop (markLength * suc n) octets
+    place n =
+        let on : markLength + markLength * n ≡ markLength * suc n = omega arith in
+        drop-drop (markLength * n) markLength octets ∙ ap (λ x. drop x octets) on
+
+    by : (t : Bool) (a b : ℕ)
+        → b ≡ pick (eqb a (length ms) && equal (markOctets m) (take markLength (drop (markLength * a) (drop markLength octets)))) (suc a) a
+        → pick t (suc b) 0
+        ≡ pick (eqb (pick t (suc a) 0) (suc (length ms)) && equal (markOctets m) (take markLength (drop (markLength * pick t (suc a) 0) octets)))
+        (suc (pick t (suc a) 0)) (pick t (suc a) 0)
+    by true a b e = rw (e, place a) (sucs (eqb a (length ms)) (eqb (suc a) (suc (length ms))) (sym (eqb·suc-suc a (length ms))))
+      where
+        sucs : (x y : Bool) → x ≡ y
+            → suc (pick (x && equal (markOctets m) (take markLength (drop (markLength * suc a) octets))) (suc a) a)
+            ≡ pick (y && equal (markOctets m) (take markLength (drop (markLength * suc a) octets))) (suc (suc a)) (suc a)
+        sucs x y e = rw e (test-under suc (y && equal (markOctets m) (take markLength (drop (markLength * suc a) octets))) (suc a) a)
+    by false a b e = rw (ne-eqb 0 (suc (length ms)) (λ z. omega (arith, z)))
+
+agreeing-one : {n : ℕ} (ms : List Mark) (m : Mark) (octets : List ℕ) → suc (length ms) ≡ m .opened / every → n ≡ agreeing ms octets
+    → agreedOn m octets n ≡ agreeing (ms ++ (m ∷ [])) octets
+unfolding agreedOn
+agreeing-one ms m octets number e = rw (e, ← number, eqb·suc-suc) (sym (agreeing-next ms m octets))
+
+-- a packet further, by whether a mark is kept behind it
+module _ {next : Mark} {t : Bool} (start : Link) (tape : List ℕ) (at : Mark) (ms : List Mark)
+    (w : Walks mostGroups longestPlain farthest fits start tape at ms)
+    (some : onPacket (readAt mostGroups longestPacket tape (at .offset) .packet) true false ≡ true)
+    (en : next ≡ onward mostGroups longestPlain farthest at (readAt mostGroups longestPacket tape (at .offset) .packet))
+    (et : t ≡ ltb (at .opened / every) (next .opened / every)) where
+  abbrev packet : List ℕ
+  packet = readAt mostGroups longestPacket tape (at .offset) .packet
+
+  behind-is : (b : Bool) → t ≡ b → kept mostGroups longestPlain farthest at packet ≡ pick b (next ∷ []) []
+  behind-is b e = kept-is mostGroups longestPlain farthest at packet ∙ rw (← en, ← et, e)
+
+  pub further : (b : Bool) → t ≡ b
+      → Walks mostGroups longestPlain farthest fits start tape next (ms ++ pick b (next ∷ []) []) × (at .offset < next .offset) × (next .offset ≤ length tape)
+  further b e =
+      let (w′, low, high) = walks-next mostGroups longestPlain farthest fits start tape at ms w some in
+      rw (← behind-is b e, en) (w′, low, high)
+
+-- the loop that compares, and the one that writes
+abbrev pub Compares : (start : Link) (tape marks : List ℕ) → Mark → ℕ → Type 0
+Compares start tape marks at n = (ms : List Mark) × Walks mostGroups longestPlain farthest fits start tape at ms × (n ≡ agreeing ms marks)
+
+abbrev pub Puts : (start : Link) (tape out : List ℕ) → Mark → List ℕ → Type 0
+Puts start tape out at now = (ms : List Mark) × Walks mostGroups longestPlain farthest fits start tape at ms × (now ≡ written (marksOctets ms) out)
+
+pub compares-first : (start : Link) (tape marks : List ℕ) → Whole start → Compares start tape marks (startAt start) 0
+unfolding agreeing
+compares-first start tape marks whole = ([], walks-first mostGroups longestPlain farthest fits start tape whole, refl)
+
+pub puts-first : (start : Link) (tape out : List ℕ) → Whole start → Puts start tape out (startAt start) out
+unfolding marksOctets
+puts-first start tape out whole = ([], walks-first mostGroups longestPlain farthest fits start tape whole, refl)
+
+-- a loop's step: what is known of it, and that it moves on
+pub record Stepped (tape : List ℕ) (at next : Mark) (t : Bool) : Type 0 where
+  pub some : onPacket (readAt mostGroups longestPacket tape (at .offset) .packet) true false ≡ true
+  pub next-is : next ≡ onward mostGroups longestPlain farthest at (readAt mostGroups longestPacket tape (at .offset) .packet)
+  pub test : t ≡ ltb (at .opened / every) (next .opened / every)
+
+pub stepped : {next : Mark} {here t : Bool} (tape : List ℕ) (at : Mark) → here ≡ onPacket (readAt mostGroups longestPacket tape (at .offset) .packet) true false → here ≡ true
+    → next ≡ onward mostGroups longestPlain farthest at (readAt mostGroups longestPacket tape (at .offset) .packet)
+    → t ≡ ltb (at .opened / every) (next .opened / every) → Stepped tape at next t
+stepped tape at eh h en et = record { some = sym eh ∙ h; next-is = en; test = et }
+
+pub begins-walk : {start : Link} {tape : List ℕ} {at : Mark} {ms : List Mark} → Walks mostGroups longestPlain farthest fits start tape at ms
+    → Begins (at .link) × (at .opened < at .offset)
+begins-walk w = ((w .whole .0, w .whole .1), w .few)
+
+module _ {next : Mark} {t : Bool} (start : Link) (tape : List ℕ) (at : Mark) (s : Stepped tape at next t) where
+  on : (ms : List Mark) → Walks mostGroups longestPlain farthest fits start tape at ms → (b : Bool) → t ≡ b
+      → Walks mostGroups longestPlain farthest fits start tape next (ms ++ pick b (next ∷ []) []) × (at .offset < next .offset) × (next .offset ≤ length tape)
+  on ms w = further start tape at ms w (s .some) (s .next-is) (s .test)
+
+  pub goes-down : (ms : List Mark) → Walks mostGroups longestPlain farthest fits start tape at ms → suc (length tape) - next .offset < suc (length tape) - at .offset
+  goes-down ms w = let (_, low, high) = on ms w t refl in omega (arith, low, high)
+
+  full : (ms : List Mark) → Walks mostGroups longestPlain farthest fits start tape at ms → t ≡ true → suc (length ms) ≡ next .opened / every
+  full ms w kept =
+      let (w′, _, _) = on ms w true kept in
+      sym (length-append ms (next ∷ []) ∙ add-one (length ms)) ∙ w′ .number
+
+  pub agrees-less : {n : ℕ} (marks : List ℕ) → Compares start tape marks at n → t ≡ true → n < next .opened / every
+  agrees-less marks (ms, w, e) kept = omega (arith, e, agreeing-most ms marks, full ms w kept)
+
+  pub compares-kept : {n n′ : ℕ} (marks : List ℕ) → Compares start tape marks at n → t ≡ true → n′ ≡ agreedOn next marks n → Compares start tape marks next n′
+  compares-kept marks (ms, w, e) kept en =
+      (ms ++ (next ∷ []), on ms w true kept .0, en ∙ agreeing-one ms next marks (full ms w kept) e)
+
+  pub compares-not : {n : ℕ} (marks : List ℕ) → Compares start tape marks at n → t ≡ false → Compares start tape marks next n
+  compares-not marks (ms, w, e) none = (ms, rw append-nil at (on ms w false none .0), e)
+
+  pub puts-room : {now : List ℕ} (out : List ℕ) → length (marksOctets (marksOf mostGroups longestPlain farthest start tape)) ≤ length out → Whole start
+      → Puts start tape out at now → t ≡ true → (1 ≤ next .opened / every) × (markLength * (next .opened / every) ≤ length now)
+  unfolding marksOf
+  puts-room {now} out room whole (ms, w, e) kept =
+      let (w′, _, _) = on ms w true kept in
+      let all : List Mark = marksOf mostGroups longestPlain farthest start tape in
+      let size : length (marksOctets all) ≡ markLength * length all =
+      marks-length mostGroups longestPlain farthest (startAt start) (contents mostGroups longestPacket tape .packets) whole in
+      let many : length all ≡ length (ms ++ (next ∷ [])) + _ = ap (λ l. length l) (w′ .marks) ∙ length-append (ms ++ (next ∷ [])) _ in
+      let more : length (ms ++ (next ∷ [])) ≡ suc (length ms) = length-append ms (next ∷ []) ∙ add-one (length ms) in
+      let number = full ms w kept in
+      let long : length now ≡ length (marksOctets ms) + (length out - length (marksOctets ms)) = ap length e ∙ simp (length-append, length-drop) in
+      (omega (arith, number), omega (arith, number, room, size, many, more, long))
+
+  pub puts-kept : {now after : List ℕ} (out : List ℕ) → Puts start tape out at now → t ≡ true
+      → after ≡ writtenAt (markLength * (next .opened / every - 1)) (markOctets next) now → Puts start tape out next after
+  puts-kept {now} {after} out (ms, w, e) kept ea = (ms ++ (next ∷ []), on ms w true kept .0, laid)
+    where
+      at′ : ℕ
+      at′ = markLength * (next .opened / every - 1)
+
+      before : length (marksOctets ms) ≡ at′
+      before = w .octets ∙ omega (arith, full ms w kept)
+
+      one : marksOctets (next ∷ []) ≡ markOctets next
+      one = unfold marksOctets in append-nil (markOctets next)
+
+      parts : after ≡ take at′ now ++ markOctets next ++ drop (at′ + length (markOctets next)) now
+      parts = ea ∙ rw (drop-drop, append-assoc)
+
+      laid : after ≡ written (marksOctets (ms ++ (next ∷ []))) out
+      laid = written-more (marksOctets ms) out (markOctets next) at′ e parts before ∙ ap (λ l. written l out) (ap (λ l. marksOctets ms ++ l) (sym one) ∙ sym (octets-append ms (next ∷ [])))
+
+  pub puts-not : {now : List ℕ} (out : List ℕ) → Puts start tape out at now → t ≡ false → Puts start tape out next now
+  puts-not out (ms, w, e) none = (ms, rw append-nil at (on ms w false none .0), e)
+
+-- the ends of the loops
+pub compares-last : {here : Bool} {n : ℕ} {last : Next} (start : Link) (tape marks : List ℕ) (at : Mark) → Compares start tape marks at n
+    → here ≡ onPacket (readAt mostGroups longestPacket tape (at .offset) .packet) true false → here ≡ false
+    → last ≡ nextOf (readAt mostGroups longestPacket tape (at .offset))
+    → (_≡_ {A = Found} (record { answer = last .answer; marks = at .opened / every; agreeing = n }) (found mostGroups longestPlain farthest start tape marks))
+    × (markLength * (at .opened / every) ≤ length tape)
+unfolding found nextOf
+compares-last start tape marks at (ms, w, e) eh h el =
+    let (all, answer) = walks-last mostGroups longestPlain farthest fits start tape at ms w (sym eh ∙ h) in
+    (rw (all, answer, el, e, ← w .number), omega (arith, w .few, w .near))
+
+pub puts-last : {here : Bool} {now : List ℕ} (start : Link) (tape out : List ℕ) (at : Mark) → Puts start tape out at now
+    → here ≡ onPacket (readAt mostGroups longestPacket tape (at .offset) .packet) true false → here ≡ false
+    → now ≡ written (marksOctets (marksOf mostGroups longestPlain farthest start tape)) out
+puts-last start tape out at (ms, w, e) eh h =
+    let (all, _) = walks-last mostGroups longestPlain farthest fits start tape at ms w (sym eh ∙ h) in
+    e ∙ ap (λ l. written (marksOctets l) out) (sym all)

@@ -58,6 +58,22 @@ unfolding marksOctets
 octets-append [] b = refl
 octets-append (m ∷ a) b = rw (octets-append a b, append-assoc)
 
+-- a list has 51 octets for each mark
+abbrev pub WholeOctets : List Mark → Type 0
+WholeOctets ms = length (marksOctets ms) ≡ markLength * length ms
+
+pub whole-none : WholeOctets []
+unfolding marksOctets
+whole-none = refl
+
+whole-one : (m : Mark) → Sized (m .link) → (t : Bool) → WholeOctets (pick t (m ∷ []) [])
+unfolding marksOctets
+whole-one m sized true = length-append (markOctets m) [] ∙ omega (arith, mark-length m sized)
+whole-one m sized false = refl
+
+pub whole-append : (a b : List Mark) → WholeOctets a → WholeOctets b → WholeOctets (a ++ b)
+whole-append a b ha hb = rw (octets-append a b) (simp length-append (omega (arith, ha, hb)))
+
 module _ (k limit far : ℕ) where
   -- a check says yes "exactly when they are the marks that a walk from the start gives"
   pub check-yes : (start : Link) (tape marks : List ℕ)
@@ -170,17 +186,15 @@ module _ (k limit far : ℕ) where
       by true e = let (low, high) = onward-opened m packet in omega (arith, ltb-true (m .opened / every) (next .opened / every) e)
       by false e = let (low, high) = onward-opened m packet in omega (arith, ltb-false (m .opened / every) (next .opened / every) e)
 
-  -- the octets of the marks of a walk
-  pub marks-length : (m : Mark) (ps : List (List ℕ)) → Whole (m .link) → length (marksOctets (marksFrom k limit far m ps)) ≡ markLength * length (marksFrom k limit far m ps)
-  unfolding marksFrom marksOctets
-  marks-length m [] whole = refl
+  -- the octets of the mark that is kept, and of all of a walk
+  pub kept-whole : (m : Mark) (packet : List ℕ) → Whole (m .link) → WholeOctets (kept k limit far m packet)
+  kept-whole m packet whole =
+      let next : Mark = onward k limit far m packet in
+      rw (kept-is m packet) (whole-one next (onward-whole m packet whole .2) (ltb (m .opened / every) (next .opened / every)))
+
+  pub marks-length : (m : Mark) (ps : List (List ℕ)) → Whole (m .link) → WholeOctets (marksFrom k limit far m ps)
+  unfolding marksFrom
+  marks-length m [] whole = whole-none
   marks-length m (p ∷ ps) whole =
       let next : Mark = onward k limit far m p in
-      let after = onward-whole m p whole in
-      rw (kept-is m p, octets-append)
-      (by next (after .2) (ltb (m .opened / every) (next .opened / every)) (marksFrom k limit far next ps) (marks-length next ps after))
-    where
-      by : (next : Mark) → Sized (next .link) → (t : Bool) (rest : List Mark) → length (marksOctets rest) ≡ markLength * length rest
-          → length (marksOctets (pick t (next ∷ []) []) ++ marksOctets rest) ≡ markLength * length (pick t (next ∷ []) [] ++ rest)
-      by next sized true rest e = simp (length-append, append-nil) (omega (arith, e, mark-length next sized))
-      by next sized false rest e = e
+      whole-append (kept k limit far m p) (marksFrom k limit far next ps) (kept-whole m p whole) (marks-length next ps (onward-whole m p whole))
