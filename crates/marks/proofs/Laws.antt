@@ -7,10 +7,10 @@ use native.Mathlib.Numerals.{add-one}
 use native.Mathlib.Omega.{arith}
 use lib.Dec.{eqb, ltb, eqb·suc-zero, eqb·suc-suc}
 use lib.ListN.{length, take, drop, getD, replicate, length-append, length-drop, length-take, length-replicate}
-use lib.Seq.{length-take-le, take-all, getD-drop, drop-drop}
-use borrow.Author.Tests.{eq-eqb, ne-eqb, lt-ltb, le-ltb, eqb-true, ltb-true, ltb-false, not-true, not-false}
-use Rattle.answer.specs.Answer.{done, size, notRecord, pick, outside, firstOf, onDone}
-use Rattle.answer.specs.Laws.{outside-none, test-under}
+use lib.Seq.{take-all, take-at, take-add, drop-at, drop-drop, getD-drop}
+use borrow.Author.Tests.{eq-eqb, ne-eqb, lt-ltb, le-ltb, eqb-true, eqb-false, ltb-true, ltb-false, not-true, not-false}
+use Rattle.answer.specs.Answer.{done, room, size, notRecord, pick, outside, firstOf, onDone}
+use Rattle.answer.specs.Laws.{both, outside-none, test-under}
 use Rattle.octets.specs.Octets.{bigEndian, fromBigEndian, written, writtenAt, equal}
 use Rattle.octets.specs.Laws.{append-more, copy-fits, written-more, equal-lengths, equal-same, equal-true}
 use Rattle.mppe_keys.specs.declared.Strength.the-variants.{Bits40}
@@ -446,3 +446,203 @@ pub puts-last : {here : Bool} {now : List ℕ} (start : Link) (tape out : List �
 puts-last start tape out at (ms, w, e) eh h =
     let (all, _) = walks-last mostGroups longestPlain farthest fits start tape at ms w (sym eh ∙ h) in
     e ∙ ap (λ l. written (marksOctets l) out) (sym all)
+
+pub written-size : {now : List ℕ} (list out : List ℕ) → length list ≤ length out → now ≡ written list out → length now ≡ length out
+written-size list out room e = ap length e ∙ simp (length-append, length-drop) (omega (arith, room))
+
+-- what the start record says
+pub begins-told : {t : Bool} (start : Link) → t ≡ (wellFormed start && byMode (start .mode) true false) → not t ≡ false → Begins start
+begins-told {t} start e h =
+    let (well, stateless) = both (wellFormed start) (byMode (start .mode) true false) (sym e ∙ not-false t h) in
+    (well, by (start .mode) stateless)
+  where
+    by : (m : Mode) → byMode m true false ≡ true → m ≡ Stateless
+    by Stateless h = refl
+    by Stateful h = absurd (true≢false (sym h))
+
+-- the rows of a walk: a record that none may begin with, and those behind
+module _ (start : Link) (tape : List ℕ) (rest : List (ℕ × Bool)) where
+  abbrev rows : List (ℕ × Bool)
+  rows = walkRows mostGroups longestPlain farthest start tape ++ rest
+
+  rows-ill : {t : Bool} → t ≡ (wellFormed start && byMode (start .mode) true false) → not t ≡ true → firstOf rows ≡ notRecord
+  rows-ill {t} e h = by (wellFormed start) (start .mode) (sym e ∙ not-true t h)
+    where
+      last : List (ℕ × Bool)
+      last = (contents mostGroups longestPacket tape .answer, not (eqb (contents mostGroups longestPacket tape .answer) done)) ∷ rest
+
+      by : (w : Bool) (m : Mode) → (w && byMode m true false) ≡ false → firstOf ((notRecord, not w) ∷ (notRecord, byMode m false true) ∷ last) ≡ notRecord
+      by true Stateless h = absurd (true≢false h)
+      by true Stateful h = refl
+      by false m h = refl
+
+  rows-begun : Begins start → (a : ℕ) → contents mostGroups longestPacket tape .answer ≡ a → firstOf rows ≡ onDone a (firstOf rest) a
+  rows-begun (well, mode) a e = by (wellFormed start) (start .mode) well mode (contents mostGroups longestPacket tape .answer) e
+    where
+      fault : (a : ℕ) → pick (not (eqb a done)) a (firstOf rest) ≡ onDone a (firstOf rest) a
+      fault zero = refl
+      fault (suc n) = rw (eqb·suc-zero n)
+
+      by : (w : Bool) (m : Mode) → w ≡ true → m ≡ Stateless → (b : ℕ) → b ≡ a
+          → firstOf ((notRecord, not w) ∷ (notRecord, byMode m false true) ∷ (b, not (eqb b done)) ∷ rest) ≡ onDone a (firstOf rest) a
+      by w m ew em b e = rw (ew, em, e) (fault a)
+
+-- a list of marks agrees with its own octets ..
+own-agrees : (k limit far : ℕ) (m : Mark) (ps : List (List ℕ)) → Whole (m .link)
+    → agreeing (marksFrom k limit far m ps) (marksOctets (marksFrom k limit far m ps)) ≡ length (marksFrom k limit far m ps)
+unfolding marksFrom marksOctets agreeing
+own-agrees k limit far m [] whole = refl
+own-agrees k limit far m (p ∷ ps) whole =
+    let next : Mark = onward k limit far m p in
+    let after = onward-whole k limit far m p whole in
+    rw (kept-is k limit far m p) (by (ltb (m .opened / every) (next .opened / every)) next (after .2) (marksFrom k limit far next ps) (own-agrees k limit far next ps after))
+  where
+    by : (t : Bool) (next : Mark) → Sized (next .link) → (rest : List Mark) → agreeing rest (marksOctets rest) ≡ length rest
+        → agreeing (pick t (next ∷ []) [] ++ rest) (marksOctets (pick t (next ∷ []) [] ++ rest)) ≡ length (pick t (next ∷ []) [] ++ rest)
+    by true next sized rest e =
+        let size = mark-length next sized in
+        rw (take-at (markOctets next) (marksOctets rest) markLength size, equal-same (markOctets next), drop-at (markOctets next) (marksOctets rest) markLength size, e)
+    by false next sized rest e = e
+
+-- .. and where all agree, they stand in front
+all-stand : (ms : List Mark) (octets : List ℕ) → agreeing ms octets ≡ length ms → take (markLength * length ms) octets ≡ marksOctets ms
+unfolding agreeing marksOctets
+all-stand [] octets e = refl
+all-stand (m ∷ ms) octets e = by (equal (markOctets m) (take markLength octets)) refl e (all-stand ms (drop markLength octets))
+  where
+    by : (t : Bool) → equal (markOctets m) (take markLength octets) ≡ t → pick t (suc (agreeing ms (drop markLength octets))) 0 ≡ suc (length ms)
+        → (agreeing ms (drop markLength octets) ≡ length ms → take (markLength * length ms) (drop markLength octets) ≡ marksOctets ms)
+        → take (markLength * suc (length ms)) octets ≡ markOctets m ++ marksOctets ms
+    by true q e ih =
+        let on : markLength * suc (length ms) ≡ markLength + markLength * length ms = omega arith in
+        ap (λ n. take n octets) on ∙ take-add markLength (markLength * length ms) octets
+        ∙ rw (← equal-true (markOctets m) (take markLength octets) q, ih (omega (arith, e)))
+    by false q e ih = absurd (omega (arith, e))
+
+-- the check's yes, by how many agree and the length of the list
+module _ (start : Link) (tape marks : List ℕ) (whole : Whole start) where
+  abbrev all : List Mark
+  all = marksOf mostGroups longestPlain farthest start tape
+
+  all-length : WholeOctets all
+  unfolding marksOf
+  all-length = marks-length mostGroups longestPlain farthest (startAt start) (contents mostGroups longestPacket tape .packets) whole
+
+  all-own : agreeing all (marksOctets all) ≡ length all
+  unfolding marksOf
+  all-own = own-agrees mostGroups longestPlain farthest (startAt start) (contents mostGroups longestPacket tape .packets) whole
+
+  yes-length : agreeing all marks ≡ length all → eqb (length marks) (markLength * length all) ≡ equal (marksOctets all) marks
+  yes-length e = by (eqb (length marks) (markLength * length all)) refl
+    where
+      by : (t : Bool) → eqb (length marks) (markLength * length all) ≡ t → t ≡ equal (marksOctets all) marks
+      by true q =
+          let long = eqb-true (length marks) (markLength * length all) q in
+          let same : marksOctets all ≡ marks = sym (all-stand all marks e) ∙ take-all (markLength * length all) marks (omega (arith, long)) in
+          sym (ap (λ l. equal l marks) same ∙ equal-same marks)
+      by false q = equal-lengths (marksOctets all) marks (λ z. eqb-false (length marks) (markLength * length all) q (sym z ∙ all-length))
+
+  yes-not : (agreeing all marks ≡ length all → ⊥) → false ≡ equal (marksOctets all) marks
+  yes-not h = by (equal (marksOctets all) marks) refl
+    where
+      by : (t : Bool) → equal (marksOctets all) marks ≡ t → false ≡ t
+      by true q = absurd (h (ap (λ l. agreeing all l) (sym (equal-true (marksOctets all) marks q)) ∙ all-own))
+      by false q = refl
+
+-- the ways out of a check
+module _ (start : Link) (tape marks : List ℕ) where
+  pub check-ill : {t : Bool} {r : Checked} → t ≡ (wellFormed start && byMode (start .mode) true false) → not t ≡ true
+      → r ≡ record { answer = notRecord; yes = false; agreeing = 0 } → r ≡ checked mostGroups longestPlain farthest start tape marks
+  unfolding checked
+  check-ill e h er = er ∙ rw (rows-ill start tape [] e h)
+
+  module _ {w : Found} (begun : Begins start) (ew : w ≡ found mostGroups longestPlain farthest start tape marks) where
+    answered : contents mostGroups longestPacket tape .answer ≡ w .answer
+    unfolding found
+    answered = sym (ap (λ (f : Found). f .answer) ew)
+
+    pub check-faulty : {r : Checked} → (w .answer ≡ done → ⊥) → r ≡ record { answer = w .answer; yes = false; agreeing = 0 }
+        → r ≡ checked mostGroups longestPlain farthest start tape marks
+    unfolding checked
+    check-faulty fault er =
+        let code = rows-begun start tape [] begun (w .answer) answered in
+        er ∙ rw code (by (w .answer) fault)
+      where
+        by : (a : ℕ) → (a ≡ done → ⊥)
+            → _≡_ {A = Checked} (record { answer = a; yes = false; agreeing = 0 })
+            (record { answer = onDone a done a; yes = onDone (onDone a done a) (equal (marksOctets (marksOf mostGroups longestPlain farthest start tape)) marks) false; agreeing = onDone (onDone a done a) (agreeing (marksOf mostGroups longestPlain farthest start tape) marks) 0 })
+        by zero fault = absurd (fault refl)
+        by (suc n) fault = refl
+
+    found-done : w .answer ≡ done → (b : Bool) → b ≡ equal (marksOctets (marksOf mostGroups longestPlain farthest start tape)) marks
+        → _≡_ {A = Checked} (record { answer = done; yes = b; agreeing = w .agreeing }) (checked mostGroups longestPlain farthest start tape marks)
+    unfolding checked found
+    found-done ok b e =
+        let code = rows-begun start tape [] begun done (answered ∙ ok) in
+        rw (code, e, ew)
+
+    pub check-same : Whole start → w .answer ≡ done → w .agreeing ≡ w .marks
+        → _≡_ {A = Checked} (record { answer = done; yes = eqb (length marks) (markLength * w .marks); agreeing = w .agreeing }) (checked mostGroups longestPlain farthest start tape marks)
+    unfolding found
+    check-same whole ok e =
+        let count = ap (λ (f : Found). f .marks) ew in
+        let agree = sym (ap (λ (f : Found). f .agreeing) ew) ∙ e ∙ count in
+        found-done ok (eqb (length marks) (markLength * w .marks)) (ap (λ n. eqb (length marks) (markLength * n)) count ∙ yes-length start tape marks whole agree)
+
+    pub check-other : Whole start → w .answer ≡ done → (w .agreeing ≡ w .marks → ⊥)
+        → _≡_ {A = Checked} (record { answer = done; yes = eqb (w .agreeing) (w .marks); agreeing = w .agreeing }) (checked mostGroups longestPlain farthest start tape marks)
+    unfolding found
+    check-other whole ok h =
+        let count = ap (λ (f : Found). f .marks) ew in
+        let agree = ap (λ (f : Found). f .agreeing) ew in
+        found-done ok (eqb (w .agreeing) (w .marks))
+        (ne-eqb (w .agreeing) (w .marks) h ∙ yes-not start tape marks whole (λ z. h (agree ∙ z ∙ sym count)))
+
+-- and of a write
+module _ (start : Link) (tape out : List ℕ) where
+  abbrev Gives : Written → List ℕ → Type 0
+  Gives r after = (r ≡ writeAnswer mostGroups longestPlain farthest start tape out) × (after ≡ writeOut mostGroups longestPlain farthest start tape out)
+
+  abbrev lastRow : List (ℕ × Bool)
+  lastRow = (room, ltb (length out) (length (marksOctets (marksOf mostGroups longestPlain farthest start tape)))) ∷ []
+
+  pub write-ill : {t : Bool} {r : Written} → t ≡ (wellFormed start && byMode (start .mode) true false) → not t ≡ true
+      → r ≡ record { answer = notRecord; length = 0 } → Gives r out
+  unfolding writeAnswer writeOut writeCode
+  write-ill e h er = let code = rows-ill start tape lastRow e h in (er ∙ rw code, rw code)
+
+  module _ {w : Found} (marks : List ℕ) (begun : Begins start) (ew : w ≡ found mostGroups longestPlain farthest start tape marks) where
+    pub write-faulty : {r : Written} → (w .answer ≡ done → ⊥) → r ≡ record { answer = w .answer; length = 0 } → Gives r out
+    unfolding writeAnswer writeOut writeCode
+    write-faulty {r} fault er =
+        let code = rows-begun start tape lastRow begun (w .answer) (answered start tape marks begun ew) in
+        rw code (by (w .answer) fault er)
+      where
+        by : (a : ℕ) → (a ≡ done → ⊥) → r ≡ record { answer = a; length = 0 }
+            → (r ≡ record { answer = onDone a (firstOf lastRow) a; length = onDone (onDone a (firstOf lastRow) a) (length (marksOctets (marksOf mostGroups longestPlain farthest start tape))) 0 })
+            × (out ≡ onDone (onDone a (firstOf lastRow) a) (written (marksOctets (marksOf mostGroups longestPlain farthest start tape)) out) out)
+        by zero fault er = absurd (fault refl)
+        by (suc n) fault er = (er, refl)
+
+    module _ (whole : Whole start) (ok : w .answer ≡ done) where
+      code-is : writeCode mostGroups longestPlain farthest start tape out ≡ firstOf lastRow
+      unfolding writeCode
+      code-is = rows-begun start tape lastRow begun done (answered start tape marks begun ew ∙ ok)
+
+      pub list-length : markLength * w .marks ≡ length (marksOctets (marksOf mostGroups longestPlain farthest start tape))
+      unfolding found
+      list-length = ap (λ (f : Found). markLength * f .marks) ew ∙ sym (all-length start tape marks whole)
+
+      pub write-short : {r : Written} → length out < markLength * w .marks → r ≡ record { answer = room; length = 0 } → Gives r out
+      unfolding writeAnswer writeOut
+      write-short short er =
+          let small = lt-ltb (length out) (length (marksOctets (marksOf mostGroups longestPlain farthest start tape))) (omega (arith, list-length)) in
+          (er ∙ rw (code-is, small), rw (code-is, small))
+
+      pub write-done : {after : List ℕ} → markLength * w .marks ≤ length out
+          → after ≡ written (marksOctets (marksOf mostGroups longestPlain farthest start tape)) out
+          → Gives (record { answer = done; length = markLength * w .marks }) after
+      unfolding writeAnswer writeOut
+      write-done enough ea =
+          let large = le-ltb (length out) (length (marksOctets (marksOf mostGroups longestPlain farthest start tape))) (omega (arith, list-length)) in
+          (rw (code-is, large, list-length), rw (code-is, large) ea)

@@ -1,51 +1,99 @@
+use mathlib.Core.Path.{sym, _∙_}
+use Prim.Native.Nat.{suc, _-_}
+use lib.ListN.{length}
+use Rattle.marks.specs.Laws.{Whole}
+use Rattle.marks.proofs.Laws.{Puts, Stepped, stepped, begins-walk, goes-down, puts-first, puts-room, puts-kept, puts-not, puts-last, written-size}
 use borrow.Author.Needs.{needs}
 use Rattle.marks.proofs.put_marks.Statement.{statement}
 use Rattle.marks.proofs.put_marks.Tie as tie
-use Rattle.marks.proofs.put_marks.Reads as reads
-use Rattle.marks.proofs.put_marks.Lts as lts
-use Rattle.marks.proofs.advanced.Reads as advanced-reads
-use Rattle.marks.proofs.has_packet.Reads as has-packet-reads
-use Rattle.marks.proofs.is_kept.Reads as is-kept-reads
-use Rattle.marks.proofs.put_mark.Reads as put-mark-reads
 
 abbrev Inv-loop : tie.InvT-loop
-Inv-loop tape out₀ at₀ out at = ?
+Inv-loop tape out₀ at₀ out at = Puts (at₀ .link) tape out₀ at out
 
 abbrev μ-loop : tie.MeasureT-loop
-μ-loop tape out₀ at₀ out at = ?
+μ-loop tape out₀ at₀ out at = suc (length tape) - at .offset
+
+-- what is known once a packet is passed
+known : (p : tie.After-is-kept Inv-loop μ-loop) →
+    let loop = p .before .before .before .before in
+    Stepped (loop .before .before .before .args .tape .now) (loop .loop .at) (p .before .advanced .result) (p .is-kept .result)
+known p =
+    let called = p .before in
+    let here = called .before in
+    let asked = here .before in
+    let loop = asked .before in
+    stepped (loop .before .before .before .args .tape .now) (loop .loop .at) (asked .has-packet .ensures) (here .if1 .taken) (called .advanced .ensures) (p .is-kept .ensures)
+
+-- the record that it begins with has the sizes of the code's struct
+whole-start : (s : tie.Start Inv-loop μ-loop) → Whole (s .args .start)
+whole-start s = (s .pre .0 .0, s .pre .0 .1, (search needs, search needs, search needs, (search needs, search needs, search needs)))
 
 loop-holds : tie.Need-loop-holds Inv-loop μ-loop
-loop-holds c = ?
+loop-holds c =
+    let s = c .before .before in
+    puts-first (s .args .start) (s .args .tape .now) (s .args .out .now) (whole-start s)
 
 has-packet-requires : tie.Need-has-packet-requires Inv-loop μ-loop
 has-packet-requires c κs = search needs
 
 advanced-requires : tie.Need-advanced-requires Inv-loop μ-loop
-advanced-requires c κs = ?
+advanced-requires c κs =
+    let asked = c .before in
+    let (begins, few) = begins-walk (asked .before .loop .inv .1) in
+    (sym (asked .has-packet .ensures) ∙ c .if1 .taken, begins, few)
 
 is-kept-requires : tie.Need-is-kept-requires Inv-loop μ-loop
 is-kept-requires c κs = search needs
 
 put-mark-requires : tie.Need-put-mark-requires Inv-loop μ-loop
-put-mark-requires c κs = ?
+put-mark-requires c κs =
+    let p = c .before .before in
+    let loop = p .before .before .before .before in
+    let s = loop .before .before .before in
+    puts-room (s .args .start) (s .args .tape .now) (loop .loop .at) (known p) (s .args .out .now) (s .pre .1) (whole-start s) (loop .loop .inv) (c .before .if2 .taken)
 
 loop-less : tie.Need-loop-less Inv-loop μ-loop
-loop-less c = ?
+loop-less c =
+    let p = c .before .before .before .before .before in
+    let loop = p .before .before .before .before in
+    let s = loop .before .before .before in
+    goes-down (s .args .start) (s .args .tape .now) (loop .loop .at) (known p) _ (loop .loop .inv .1)
 
 loop-again : tie.Need-loop-again Inv-loop μ-loop
-loop-again c = ?
+loop-again c =
+    let p = c .before .before .before .before .before in
+    let loop = p .before .before .before .before in
+    let s = loop .before .before .before in
+    puts-kept (s .args .start) (s .args .tape .now) (loop .loop .at) (known p) (s .args .out .now) (loop .loop .inv) (c .before .before .before .before .if2 .taken) (c .before .before .put-mark .ensures)
 
 loop-less-2 : tie.Need-loop-less-2 Inv-loop μ-loop
-loop-less-2 c = ?
+loop-less-2 c =
+    let p = c .before in
+    let loop = p .before .before .before .before in
+    let s = loop .before .before .before in
+    goes-down (s .args .start) (s .args .tape .now) (loop .loop .at) (known p) _ (loop .loop .inv .1)
 
 loop-again-2 : tie.Need-loop-again-2 Inv-loop μ-loop
-loop-again-2 c = ?
+loop-again-2 c =
+    let p = c .before in
+    let loop = p .before .before .before .before in
+    let s = loop .before .before .before in
+    puts-not (s .args .start) (s .args .tape .now) (loop .loop .at) (known p) (s .args .out .now) (loop .loop .inv) (c .if2 .left)
 
 same-length : tie.Need-same-length Inv-loop μ-loop
-same-length c = ?
+same-length c =
+    let asked = c .before in
+    let loop = asked .before in
+    let s = loop .before .before .before in
+    written-size _ (s .args .out .now) (s .pre .1)
+    (puts-last (s .args .start) (s .args .tape .now) (s .args .out .now) (loop .loop .at) (loop .loop .inv) (asked .has-packet .ensures) (c .if1 .left))
 
 returns : tie.Need-returns Inv-loop μ-loop
-returns c = ?
+returns c =
+    let asked = c .before in
+    let loop = asked .before in
+    let s = loop .before .before .before in
+    puts-last (s .args .start) (s .args .tape .now) (s .args .out .now) (loop .loop .at) (loop .loop .inv) (asked .has-packet .ensures) (c .if1 .left)
 
 pub put-marks-spec : {M : Type 1} → statement M
 put-marks-spec =
