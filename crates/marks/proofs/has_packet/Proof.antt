@@ -1,3 +1,4 @@
+use Rattle.tape.specs.Tape.{longestPacket, mostGroups, readAt}
 use Rattle.marks.proofs.Laws.{packet-there}
 use borrow.Author.Needs.{needs}
 use Rattle.marks.proofs.has_packet.Statement.{statement}
@@ -10,7 +11,9 @@ packet-requires : tie.Need-packet-requires
 packet-requires c κs = search needs
 
 returns : tie.Need-returns
-returns c = packet-there _ (c .packet .ensures .0)
+returns c =
+    let a = c .before .before .args in
+    packet-there (readAt mostGroups longestPacket (a .tape .now) (a .offset)) (c .packet .ensures .0)
 
 pub has-packet-spec : {M : Type 1} → statement M
 has-packet-spec = tie.close (tie.spec packet-requires returns)

@@ -1,6 +1,9 @@
 use mathlib.Core.Path.{sym, _∙_}
 use Prim.Native.Nat.{suc, _-_}
 use lib.ListN.{length}
+use Rattle.mppe.specs.Link.{longestPlain, farthest}
+use Rattle.tape.specs.Tape.{mostGroups}
+use Rattle.marks.specs.Marks.{marksOctets, marksOf}
 use Rattle.marks.specs.Laws.{Whole}
 use Rattle.marks.proofs.Laws.{Puts, Stepped, stepped, begins-walk, goes-down, puts-first, puts-room, puts-kept, puts-not, puts-last, written-size}
 use borrow.Author.Needs.{needs}
@@ -85,7 +88,7 @@ same-length c =
     let asked = c .before in
     let loop = asked .before in
     let s = loop .before .before .before in
-    written-size _ (s .args .out .now) (s .pre .1)
+    written-size (marksOctets (marksOf mostGroups longestPlain farthest (s .args .start) (s .args .tape .now))) (s .args .out .now) (s .pre .1)
     (puts-last (s .args .start) (s .args .tape .now) (s .args .out .now) (loop .loop .at) (loop .loop .inv) (asked .has-packet .ensures) (c .if1 .left))
 
 returns : tie.Need-returns Inv-loop μ-loop

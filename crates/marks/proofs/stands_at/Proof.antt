@@ -28,7 +28,9 @@ same-requires : tie.Need-same-requires
 same-requires c κs = search needs
 
 returns-2 : tie.Need-returns-2
-returns-2 c = stands-is _ _ _ (c .same .ensures)
+returns-2 c =
+    let a = c .before .before .before .before .before .args in
+    stands-is (a .octets .now) (a .marks .now) (a .at) (c .same .ensures)
 
 pub stands-at-spec : {M : Type 1} → statement M
 stands-at-spec =
