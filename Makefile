@@ -1,5 +1,5 @@
 #: make demo       a station logs in, sends readings over a line that loses some, and gets setpoints over a stateful modem
-#: make tape       the bench's program, target/bin/tape, that records, lists and replays tapes
+#: make tape       the bench's program, target/bin/tape, that records, lists and replays tapes, and keeps marks beside them
 #: make test       every proof and every test; the last line is the verdict, `N passed, 0 failed`
 #: make fuzz       the library against an independent program, with fresh cases, for SECONDS=60
 #: make bench      the library's speed beside plain C and OpenSSL, in one run
@@ -12,6 +12,7 @@
 SECONDS = 60
 PREFIX = /usr/local
 C = gcc -std=c11 -O2 -Wall -Wextra -Werror
+TAPE = tape recording marks walk words files line
 
 help:
 	@sed -n 's/^#: //p' Makefile
@@ -23,7 +24,7 @@ demo: archive
 
 tape: archive
 	@mkdir -p target/bin
-	@$(C) -Iinclude -o target/bin/tape demo/tape.c demo/line.c target/lib/libudukemb.a
+	@$(C) -Iinclude -o target/bin/tape $(TAPE:%=demo/%.c) target/lib/libudukemb.a
 	@echo "target/bin/tape; without arguments it says how it is used"
 
 test:

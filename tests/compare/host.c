@@ -1,11 +1,13 @@
 /* The large comparison of the calls that a C host makes: cases from a seed, answered by the oracle and by the library through
    include/udukemb.h; then whole runs of a link in each mode (runs.h), packets in any order (order.h), long ones (long_packets.h), tapes
-   (tapes.h) and a long one (long_tape.h). Arguments: the seed, and how many cases for each call. */
+   (tapes.h), marks beside them (marks.h) and a long tape (long_tape.h). Arguments: the seed, and how many cases for each call. */
 #include "guard.h"
 #include "host.h"
 #include "links.h"
 #include "long_packets.h"
 #include "long_tape.h"
+#include "mark_cases.h"
+#include "marks.h"
 #include "order.h"
 #include "runs.h"
 #include "tape_cases.h"
@@ -511,13 +513,19 @@ static void make_tape_write(test *t)
     make_written(&t->in[0], &t->lent[0]);
 }
 
+/* What is written as an answer. */
+static void gave_written(answer *a, int number, size_t length)
+{
+    a->number = number;
+    size_field(a, length);
+}
+
 /* The record, and its length. */
 static void expect_tape_write(const test *t, answer *a)
 {
     tape_written w = oracle_tape_write(in(t, 0), lent(a, 0));
 
-    a->number = w.number;
-    size_field(a, w.length);
+    gave_written(a, w.number, w.length);
 }
 
 /* The same by the library. */
@@ -525,8 +533,7 @@ static void give_tape_write(const test *t, const loan *l, answer *a)
 {
     struct udukemb_written w = udukemb_tape_write(IN(0), OUT(0));
 
-    a->number = w.answer;
-    size_field(a, w.length);
+    gave_written(a, w.answer, w.length);
 }
 
 /* Read: the tape is the input. */
@@ -535,14 +542,20 @@ static void make_tape_read(test *t)
     set_offset(t, make_tape(&t->in[0]));
 }
 
+/* What is read as an answer: two numbers. */
+static void gave_read(answer *a, int number, size_t first, size_t second)
+{
+    a->number = number;
+    size_field(a, first);
+    size_field(a, second);
+}
+
 /* Where the packet begins, and the offset after it. */
 static void expect_tape_read(const test *t, answer *a)
 {
     tape_next n = oracle_tape_read(in(t, 0), offset_of(t));
 
-    a->number = n.number;
-    size_field(a, n.start);
-    size_field(a, n.offset);
+    gave_read(a, n.number, n.start, n.offset);
 }
 
 /* The same by the library. */
@@ -550,9 +563,7 @@ static void give_tape_read(const test *t, const loan *l, answer *a)
 {
     struct udukemb_next n = udukemb_tape_read(IN(0), offset_of(t));
 
-    a->number = n.answer;
-    size_field(a, n.start);
-    size_field(a, n.offset);
+    gave_read(a, n.answer, n.start, n.offset);
 }
 
 /* A step of a replay: the tape is the input, the record the first lent buffer, and the plain packet goes into the second. The tape is
@@ -592,6 +603,96 @@ static void give_tape_replay(const test *t, const loan *l, answer *a)
     size_field(a, r.offset);
 }
 
+/* The first two inputs of a call for a tape with marks: the record that it begins with, and the tape. Often one of them is faulty. */
+static void make_inputs(test *t, marked *m)
+{
+    spoil_any(m);
+    copy(&t->in[0], &m->start);
+    copy(&t->in[1], &m->tape);
+}
+
+/* The list of a tape's marks goes into the first lent buffer. */
+static void make_marks_write(test *t)
+{
+    static marked m;
+
+    make_any_marked(&m);
+    make_room(&t->lent[0], m.list.n);
+    make_inputs(t, &m);
+}
+
+/* The list, and its length. */
+static void expect_marks_write(const test *t, answer *a)
+{
+    tape_written w = oracle_marks_write(in(t, 0), in(t, 1), lent(a, 0));
+
+    gave_written(a, w.number, w.length);
+}
+
+/* The same by the library. */
+static void give_marks_write(const test *t, const loan *l, answer *a)
+{
+    struct udukemb_written w = udukemb_marks_write(IN(0), IN(1), OUT(0));
+
+    gave_written(a, w.answer, w.length);
+}
+
+/* A mark read: it is the input, and its record goes into the first lent buffer. */
+static void make_marks_read(test *t)
+{
+    make_mark(&t->in[0], &t->lent[0]);
+}
+
+/* How many were opened, the offset, and the record. */
+static void expect_marks_read(const test *t, answer *a)
+{
+    tape_mark m = oracle_marks_read(in(t, 0), lent(a, 0));
+
+    gave_read(a, m.number, m.opened, m.offset);
+}
+
+/* The same by the library. */
+static void give_marks_read(const test *t, const loan *l, answer *a)
+{
+    struct udukemb_mark m = udukemb_marks_read(IN(0), OUT(0));
+
+    gave_read(a, m.answer, m.opened, m.offset);
+}
+
+/* A check: the list is the third input. */
+static void make_marks_check(test *t)
+{
+    static marked m;
+
+    make_any_marked(&m);
+    make_list(&m, &t->in[2]);
+    make_inputs(t, &m);
+}
+
+/* A check of marks as an answer. */
+static void gave_marks_check(answer *a, int number, bool yes, size_t agreeing)
+{
+    a->number = number;
+    *field(a, 1) = yes;
+    size_field(a, agreeing);
+}
+
+/* Whether it is the list, and how many of its marks are right. */
+static void expect_marks_check(const test *t, answer *a)
+{
+    marks_checked c = oracle_marks_check(in(t, 0), in(t, 1), in(t, 2));
+
+    gave_marks_check(a, c.number, c.yes, c.agreeing);
+}
+
+/* The same by the library. */
+static void give_marks_check(const test *t, const loan *l, answer *a)
+{
+    struct udukemb_marks_checked c = udukemb_marks_check(IN(0), IN(1), IN(2));
+
+    gave_marks_check(a, c.answer, c.yes, c.agreeing);
+}
+
 static const call calls[CALLS] = {
     {"udukemb_check_response", CHECK_RESPONSE, make_check_response, expect_check_response},
     {"udukemb_nt_response", RESPONSE, make_login, expect_nt_response},
@@ -613,6 +714,9 @@ static const call calls[CALLS] = {
     {"udukemb_tape_write", TAPE_WRITE, make_tape_write, expect_tape_write},
     {"udukemb_tape_read", TAPE_READ, make_tape_read, expect_tape_read},
     {"udukemb_tape_replay", TAPE_REPLAY, make_tape_replay, expect_tape_replay},
+    {"udukemb_marks_write", MARKS_WRITE, make_marks_write, expect_marks_write},
+    {"udukemb_marks_read", MARKS_READ, make_marks_read, expect_marks_read},
+    {"udukemb_marks_check", MARKS_CHECK, make_marks_check, expect_marks_check},
 };
 
 const call seal_in_run = {"udukemb_seal in a run", SEAL, make_seal, expect_seal};
@@ -626,6 +730,9 @@ const call tape_begin_in_run = {"udukemb_tape_begin in a run", TAPE_BEGIN, make_
 const call tape_write_in_run = {"udukemb_tape_write in a run", TAPE_WRITE, make_tape_write, expect_tape_write};
 const call tape_read_in_run = {"udukemb_tape_read in a run", TAPE_READ, make_tape_read, expect_tape_read};
 const call tape_replay_in_run = {"udukemb_tape_replay in a run", TAPE_REPLAY, make_tape_replay, expect_tape_replay};
+const call marks_write_in_run = {"udukemb_marks_write in a run", MARKS_WRITE, make_marks_write, expect_marks_write};
+const call marks_read_in_run = {"udukemb_marks_read in a run", MARKS_READ, make_marks_read, expect_marks_read};
+const call marks_check_in_run = {"udukemb_marks_check in a run", MARKS_CHECK, make_marks_check, expect_marks_check};
 
 /* How often each call gave each number, in cases and in runs. */
 static unsigned long came[CALLS][UINT8_MAX + 1];
@@ -654,6 +761,9 @@ void give(const test *t, answer *a)
         [TAPE_WRITE] = give_tape_write,
         [TAPE_READ] = give_tape_read,
         [TAPE_REPLAY] = give_tape_replay,
+        [MARKS_WRITE] = give_marks_write,
+        [MARKS_READ] = give_marks_read,
+        [MARKS_CHECK] = give_marks_check,
     };
     loan l = lend_guarded(t);
 
@@ -662,8 +772,8 @@ void give(const test *t, answer *a)
     came[t->call][a->number]++;
 }
 
-/* Prints how often the calls for a packet in pieces and for a tape gave each number that they can give; ends the program where one
-   never came. */
+/* Prints how often the calls for a packet in pieces, for a tape and for marks gave each number that they can give; ends the program where
+   one never came. */
 static void every_number_came(void)
 {
     static const struct {
@@ -677,6 +787,9 @@ static void every_number_came(void)
         {"udukemb_tape_write", TAPE_WRITE, {SHAPE, ROOM, DONE}},
         {"udukemb_tape_read", TAPE_READ, {SHAPE, SIZE, DONE}},
         {"udukemb_tape_replay", TAPE_REPLAY, {RECORD, SHAPE, SIZE, FLAGS, REPEAT, LATE, WAITING, ROOM, PROTOCOL, DONE}},
+        {"udukemb_marks_write", MARKS_WRITE, {RECORD, SHAPE, ROOM, DONE}},
+        {"udukemb_marks_read", MARKS_READ, {SIZE, RECORD, ROOM, DONE}},
+        {"udukemb_marks_check", MARKS_CHECK, {RECORD, SHAPE, DONE}},
     };
 
     for (size_t k = 0; k < sizeof can / sizeof can[0]; k++) {
@@ -694,7 +807,7 @@ static void every_number_came(void)
     }
 }
 
-/* Compares every call, then runs of a link in each mode, packets in any order, long ones, and tapes. */
+/* Compares every call, then runs of a link in each mode, packets in any order, long ones, tapes, and marks beside them. */
 int main(int count, char **words)
 {
     unsigned long seed, cases, total;
@@ -709,9 +822,11 @@ int main(int count, char **words)
     total += compare_order(seed);
     total += compare_long_packets(seed);
     total += compare_tapes(seed);
+    total += compare_marks(seed);
     compare_long_tape(seed, cases);
     every_number_came();
     every_tape_came(cases);
+    every_mark_came(cases);
     printf("%lu calls of the C host, all equal\n", total);
     return 0;
 }

@@ -132,8 +132,8 @@ void make_start(octets *record, unsigned bits, bool stateful)
         while (record->at[0] != bits || record->at[AT_MODE] != stateful);
 }
 
-/* A length that a record does not have: that of its front, one beside its own, none, or any. */
-static size_t make_other_length(void)
+/* That of its front, one beside its own, none, or any. */
+size_t make_other_length(void)
 {
     static const size_t others[] = {0, AT_MODE, RECORD_OCTETS - 1, RECORD_OCTETS + 1};
 

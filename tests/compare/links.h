@@ -33,11 +33,12 @@ part part_of(const octets *o);
 /* The key changes that a packet of a count brings with it in a record's mode. */
 unsigned changes_with(const octet *record, unsigned count);
 
-/* The record of a new link; a well formed one made by hand; either of them; one damage to a record; a record that is damaged now and
-   then. */
+/* The record of a new link; a well formed one made by hand; either of them; a length that no record has; one damage to a record; a record
+   that is damaged now and then. */
 void make_begin(octets *record, unsigned bits, bool stateful);
 void make_right_record(octets *record);
 void make_start(octets *record, unsigned bits, bool stateful);
+size_t make_other_length(void);
 void damage_record(octets *record);
 void make_record(octets *record);
 

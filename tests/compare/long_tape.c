@@ -2,6 +2,7 @@
 #include "long_tape.h"
 #include "host.h"
 #include "links.h"
+#include "mark_cases.h"
 #include "steps.h"
 #include "udukemb.h"
 
@@ -14,10 +15,11 @@
 enum { FOR_EACH = 100, MOST_PACKETS = 100000, FEW = 5, GROUPS = 2 };
 
 /* The tape, its octets and how many they are; its packets, one behind the other, and at the same places what was sealed; how many
-   packets, how long each is, and how many key changes it brings; and the record that both ends of the link begin with. */
+   packets, how long each is, and how many key changes it brings; the record that both ends of the link begin with; and the tape's marks,
+   and how many octets these are. */
 static struct {
-    octet *at, *packets, *plains;
-    size_t n, count;
+    octet *at, *packets, *plains, *marks;
+    size_t n, count, marks_n;
     struct {
         uint16_t n, changes;
     } *each;
@@ -128,7 +130,7 @@ static void opened_as_expected(size_t k, size_t at, int number, unsigned changes
     demand(memcmp(plain, reel.plains + at, reel.each[k].n - FRONT) == 0, "a packet of a long tape opens to other octets");
 }
 
-/* Replays it into one room. */
+/* Replays it into one room. Behind each 256th packet its mark is kept. */
 static double replay_all(octet record[RECORD_OCTETS])
 {
     octet plain[LINE_PLAIN];
@@ -141,6 +143,10 @@ static double replay_all(octet record[RECORD_OCTETS])
 
         opened_as_expected(k, at, r.answer, r.changes, plain);
         offset = r.offset;
+        if ((k + 1) % MARK_EVERY == 0) {
+            put_mark(reel.marks + reel.marks_n, k + 1, offset, record);
+            reel.marks_n += MARK_OCTETS;
+        }
     }
     demand(offset == reel.n, "a replay does not come to the end of a long tape");
     return now() - from;
@@ -161,6 +167,69 @@ static double open_all(octet record[RECORD_OCTETS])
     return now() - from;
 }
 
+/* Writes its marks, in just as much room as they need: they are those of the steps from the start. Gives the seconds. */
+static double write_marks(void)
+{
+    octet *written = room_of(reel.marks_n + 1);
+    double from = now();
+    struct udukemb_written w = udukemb_marks_write(reel.begun.at, RECORD_OCTETS, reel.at, reel.n, written, reel.marks_n);
+
+    from = now() - from;
+    demand(w.answer == DONE && w.length == reel.marks_n, "the marks of a long tape are not written");
+    demand(memcmp(reel.marks, written, reel.marks_n) == 0, "the marks of a long tape are not those of its steps");
+    free(written);
+    return from;
+}
+
+/* Checks its marks, of which so many are right. Gives the seconds. */
+static double check_marks(size_t right)
+{
+    double from = now();
+    struct udukemb_marks_checked c = udukemb_marks_check(reel.begun.at, RECORD_OCTETS, reel.at, reel.n, reel.marks, reel.marks_n);
+
+    demand(c.answer == DONE && c.yes == (right * MARK_OCTETS == reel.marks_n), "the marks of a long tape are not checked as they are");
+    demand(c.agreeing == right, "another number of a long tape's marks is right");
+    return now() - from;
+}
+
+/* Replays what is behind a mark, to the record that the whole replay comes to. Gives the seconds. */
+static double replay_behind(size_t mark, const octet end[RECORD_OCTETS])
+{
+    octet plain[LINE_PLAIN], record[RECORD_OCTETS];
+    double from = now();
+    struct udukemb_mark m = udukemb_marks_read(reel.marks + mark * MARK_OCTETS, MARK_OCTETS, record, RECORD_OCTETS);
+    size_t k = 0, at = 0;
+
+    demand(m.answer == DONE && m.opened == (mark + 1) * MARK_EVERY, "a mark of a long tape is not read");
+    for (; k < m.opened; k++)
+        at += reel.each[k].n;
+    for (size_t offset = m.offset; k < reel.count; at += reel.each[k++].n) {
+        struct udukemb_replayed r = udukemb_tape_replay(record, RECORD_OCTETS, reel.at, reel.n, offset, plain, sizeof plain);
+
+        opened_as_expected(k, at, r.answer, r.changes, plain);
+        offset = r.offset;
+    }
+    demand(memcmp(record, end, RECORD_OCTETS) == 0, "a replay behind a mark of a long tape leaves another record than the whole one");
+    return now() - from;
+}
+
+/* Its marks: checked as they are, and with an octet changed in one of them; and opened on from at the middle one. */
+static void compare_reel_marks(const octet end[RECORD_OCTETS])
+{
+    double writing = write_marks(), checking, replaying = 0;
+    size_t count = reel.marks_n / MARK_OCTETS, k = below(count + 1);
+
+    checking = check_marks(count);
+    if (count > 0)
+        replaying = replay_behind(count / 2, end);
+    if (k < count) {
+        reel.marks[k * MARK_OCTETS + below(MARK_OCTETS)] ^= (octet)(1 << below(8));
+        check_marks(k);
+    }
+    printf("its %zu marks: written in %.3f s, checked in %.3f s; what is behind the middle one was replayed in %.3f s\n", count, writing,
+           checking, replaying);
+}
+
 /* Both loops come to the same record. */
 static void compare_reel(size_t room)
 {
@@ -177,6 +246,7 @@ static void compare_reel(size_t room)
     printf("tape of %zu packets, %zu octets: written in %.3f s, read back in %.3f s, replayed in %.3f s; "
            "a plain loop over open took %.3f s\n",
            reel.count, reel.n, writing, reading, replaying, opening);
+    compare_reel_marks(replayed);
 }
 
 /* With room for packets that are all of the longest. */
@@ -191,9 +261,12 @@ void compare_long_tape(unsigned long seed, unsigned long cases)
     reel.packets = room_of(room);
     reel.plains = room_of(room);
     reel.each = room_of(1 + reel.count * sizeof *reel.each);
+    reel.marks = room_of(1 + reel.count / MARK_EVERY * MARK_OCTETS);
+    reel.marks_n = 0;
     compare_reel(room);
     free(reel.at);
     free(reel.packets);
     free(reel.plains);
     free(reel.each);
+    free(reel.marks);
 }

@@ -1,5 +1,5 @@
 /* A long tape (M-109): written, read back and replayed, with the time of each beside that of a plain loop over open on the same
-   packets. */
+   packets; and its marks (M-111): written, checked, and opened on from. */
 #ifndef LONG_TAPE_H
 #define LONG_TAPE_H
 

@@ -204,12 +204,16 @@ octet *field(answer *a, size_t n)
 }
 
 /* The highest octet first. */
-void size_field(answer *a, size_t size)
+void put_size(octet *at, size_t size)
 {
-    octet *at = field(a, SIZE_OCTETS);
-
     for (int k = SIZE_OCTETS - 1; k >= 0; k--, size >>= 8)
         at[k] = (octet)size;
+}
+
+/* Eight more fields. */
+void size_field(answer *a, size_t size)
+{
+    put_size(field(a, SIZE_OCTETS), size);
 }
 
 /* Read back. */

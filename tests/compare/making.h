@@ -88,7 +88,8 @@ part in(const test *t, int k);
 buffer lent(answer *a, int k);
 octet *field(answer *a, size_t n);
 
-/* A length or an offset as the next eight octets of its fields, and as it stands there. */
+/* A length or an offset as eight octets, as the next ones of its fields, and as it stands there. */
+void put_size(octet *at, size_t size);
 void size_field(answer *a, size_t size);
 size_t size_at(const octet *at);
 

@@ -18,6 +18,9 @@ enum { AT_LIVE = RECORD_OCTETS, AT_HEADER = 296, AT_NEXT = 298, AT_DRAWN = 314, 
 /* A tape's first octet, and the most groups that a carried length has. */
 enum { FIRST_OCTET = 1, MOST_GROUPS = 3 };
 
+/* The places of a mark's fields behind how many packets were opened, and how many octets each of its two numbers has. */
+enum { MARK_OFFSET = 8, MARK_STRENGTH = 16, MARK_START = 17, MARK_SESSION = 33, MARK_COUNT = 49, MARK_NUMBER = 8 };
+
 /* Ends the program where OpenSSL does not do what it is asked. */
 static void need(bool held)
 {
@@ -767,6 +770,13 @@ static bool off_protocol(const octet *plain)
     return plain[0] != 0 || plain[1] < LOWEST_PROTOCOL || plain[1] > HIGHEST_PROTOCOL;
 }
 
+/* Lays the box out, 0 to 255 in order. */
+static void put_box(octet *record)
+{
+    for (unsigned k = 0; k < 256; k++)
+        record[AT_STATE + 2 + k] = (octet)k;
+}
+
 /* A new link: count 4,095 (house), the box 0 to 255 in order, and a stateful one's mark set. */
 int oracle_new_link(octet bits, bool stateful, part start, buffer record)
 {
@@ -784,8 +794,7 @@ int oracle_new_link(octet bits, bool stateful, part start, buffer record)
     memcpy(record.at + AT_SESSION, session, KEY_PLACES);
     put_number(record.at + AT_COUNT, COUNTS - 1);
     record.at[AT_MODE] = record.at[AT_MARK] = stateful;
-    for (unsigned k = 0; k < 256; k++)
-        record.at[AT_STATE + 2 + k] = (octet)k;
+    put_box(record.at);
     return DONE;
 }
 
@@ -1138,6 +1147,125 @@ tape_replayed oracle_tape_replay(buffer record, part tape, size_t offset, buffer
     if (next.start < next.offset)
         result = oracle_open(record, of(tape.at + next.start, next.offset - next.start), out);
     return (tape_replayed){result.number, result.changes, next.offset};
+}
+
+/* A number of a mark, "highest octet first" (02, M-111). */
+static size_t mark_number_at(const octet *at)
+{
+    size_t number = 0;
+
+    for (int k = 0; k < MARK_NUMBER; k++)
+        number = 256 * number + at[k];
+    return number;
+}
+
+/* Writes one. */
+static void put_mark_number(octet *at, size_t number)
+{
+    for (int k = MARK_NUMBER; k > 0; number /= 256)
+        at[--k] = (octet)(number % 256);
+}
+
+/* "Opened 8, offset 8, strength in bits 1, start key 16, session key 16, last count 2" */
+static void put_mark(octet *mark, size_t count, size_t offset, const octet *record)
+{
+    put_mark_number(mark, count);
+    put_mark_number(mark + MARK_OFFSET, offset);
+    mark[MARK_STRENGTH] = record[0];
+    memcpy(mark + MARK_START, record + AT_START, KEY_PLACES);
+    memcpy(mark + MARK_SESSION, record + AT_SESSION, KEY_PLACES);
+    put_number(mark + MARK_COUNT, last_count(record));
+}
+
+/* A walk over a whole tape "with room lent for each packet": "a start record ill formed or stateful is 7; then a faulty tape gives its own
+   refusal". The marks, "after each 256th opened packet", go one behind the other into a list that has as many octets as the tape, which
+   is always more than they have; n is how many these are. */
+static int list_marks(part start, part tape, octet *list, size_t *n)
+{
+    octet record[RECORD_OCTETS], plain[LONGEST_PLAIN];
+    const buffer link = {record, start.n}, room = {plain, LONGEST_PLAIN};
+    size_t count = 0;
+    tape_next next;
+
+    *n = 0;
+    put(record, of(start.at, start.n < RECORD_OCTETS ? start.n : RECORD_OCTETS));
+    if (!well_formed(link) || is_stateful(record))
+        return RECORD;
+    for (next = oracle_tape_read(tape, 1); next.start < next.offset; next = oracle_tape_read(tape, next.offset)) {
+        if (oracle_open(link, of(tape.at + next.start, next.offset - next.start), room).number != DONE || ++count % MARK_EVERY != 0)
+            continue;
+        put_mark(list + *n, count, next.offset, record);
+        *n += MARK_OCTETS;
+    }
+    return next.number;
+}
+
+/* Room for the list of a tape's marks. */
+static octet *room_for_marks(part tape)
+{
+    octet *list = malloc(tape.n + 1);
+
+    if (list == NULL) {
+        fprintf(stderr, "no memory for marks\n");
+        exit(2);
+    }
+    return list;
+}
+
+/* "One call writes the list"; after 7 and the tape's own refusal, "in writing, too little room is 2". */
+tape_written oracle_marks_write(part start, part tape, buffer out)
+{
+    octet *list = room_for_marks(tape);
+    tape_written made = {DONE, 0};
+
+    made.number = list_marks(start, tape, list, &made.length);
+    if (made.number == DONE && out.n < made.length)
+        made.number = ROOM;
+    if (made.number == DONE)
+        put(out.at, of(list, made.length));
+    else
+        made.length = 0;
+    free(list);
+    return made;
+}
+
+/* "A call reads a mark: another length is 3, then a wrong strength or an ill-formed record 7", and last 2. The record is stateless. */
+tape_mark oracle_marks_read(part mark, buffer record)
+{
+    octet read[RECORD_OCTETS] = {0};
+
+    if (mark.n != MARK_OCTETS)
+        return (tape_mark){SIZE, 0, 0};
+    read[0] = mark.at[MARK_STRENGTH];
+    memcpy(read + AT_START, mark.at + MARK_START, KEY_PLACES);
+    memcpy(read + AT_SESSION, mark.at + MARK_SESSION, KEY_PLACES);
+    put_number(read + AT_COUNT, number_at(mark.at + MARK_COUNT));
+    put_box(read);
+    if (!well_formed((buffer){read, RECORD_OCTETS}))
+        return (tape_mark){RECORD, 0, 0};
+    if (record.n < RECORD_OCTETS)
+        return (tape_mark){ROOM, 0, 0};
+    memcpy(record.at, read, RECORD_OCTETS);
+    return (tape_mark){DONE, mark_number_at(mark.at), mark_number_at(mark.at + MARK_OFFSET)};
+}
+
+/* "A check .. says yes exactly when they are the marks that a walk from the start gives". Right ones are counted up to the first that is
+   another, or that one of the two lists does not have whole. */
+marks_checked oracle_marks_check(part start, part tape, part marks)
+{
+    octet *list = room_for_marks(tape);
+    marks_checked result = {DONE, false, 0};
+    size_t n, shorter;
+
+    result.number = list_marks(start, tape, list, &n);
+    if (result.number == DONE) {
+        shorter = n < marks.n ? n : marks.n;
+        for (size_t at = 0; shorter - at >= MARK_OCTETS && memcmp(list + at, marks.at + at, MARK_OCTETS) == 0; at += MARK_OCTETS)
+            result.agreeing++;
+        result.yes = n == marks.n && result.agreeing * MARK_OCTETS == n;
+    }
+    free(list);
+    return result;
 }
 
 /* The client's send start key then its receive start key; the server puts receive first (004). */

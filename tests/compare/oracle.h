@@ -26,6 +26,9 @@ enum { DONE, SHAPE, ROOM, SIZE, PROTOCOL, FLAGS, REPEAT, RECORD, STRENGTH, LATE 
 /* Counts of packets, and the farthest ahead of the last one that is opened. */
 enum { COUNTS = 4096, FARTHEST = 2048 };
 
+/* A mark stands after each packet whose number among those opened is a multiple of this. */
+enum { MARK_EVERY = 256 };
+
 /* Lengths. */
 enum {
     LONGEST_TEXT = 65535,
@@ -53,6 +56,7 @@ enum {
     LONGEST_PACKET = 32002,
     LEAST_CHALLENGE = 21,
     LEAST_RESPONSE = 54,
+    MARK_OCTETS = 51,
     RC4_STATE = 258 /* the box and both indices */
 };
 
@@ -159,6 +163,24 @@ tape_replayed oracle_tape_replay(buffer record, part tape, size_t offset, buffer
 
 /* A read by a reader of packets up to a longest one: of 1,502 octets that of M-109, before M-110. */
 tape_next oracle_tape_read_up_to(part tape, size_t offset, size_t longest);
+
+/* Marks beside a tape: the list of them written, a mark read, and a list checked with the record that the tape begins with. A mark has how
+   many packets were opened and the offset that follows; a check has whether the list is right, and how many of its marks are so from the
+   first on. */
+typedef struct {
+    int number;
+    size_t opened, offset;
+} tape_mark;
+
+typedef struct {
+    int number;
+    bool yes;
+    size_t agreeing;
+} marks_checked;
+
+tape_written oracle_marks_write(part start, part tape, buffer out);
+tape_mark oracle_marks_read(part mark, buffer record);
+marks_checked oracle_marks_check(part start, part tape, part marks);
 
 /* The binding key. */
 int oracle_base_key(bool server, part send, part receive, octet out[BASE_KEY]);

@@ -27,7 +27,7 @@ void start_steps(unsigned long seed, unsigned long stream)
     steps = (struct steps){.seed = seed};
 }
 
-/* Ends the program where a run does not go as demand 3, M-103 to M-105, M-109 and M-110 say. */
+/* Ends the program where a run does not go as demand 3, M-103 to M-105 and M-109 to M-111 say. */
 void demand(bool held, const char *what)
 {
     if (held)
@@ -36,15 +36,21 @@ void demand(bool held, const char *what)
     exit(1);
 }
 
-/* One call of a run, compared; its record, or what else is lent to it first, is handed back, and so is the buffer. */
-void step_into(const call *c, octets *record, const octets *input, octets *out)
+/* One call of a run, compared. */
+void compare_asked(const call *c)
 {
     static answer expected;
 
+    compare_case(c, &asked, steps.seed, steps.calls++, &expected, &given);
+}
+
+/* Its record, or what else is lent to it first, is handed back, and so is the buffer. */
+void step_into(const call *c, octets *record, const octets *input, octets *out)
+{
     copy(&asked.lent[0], record);
     copy(&asked.in[0], input);
     copy(&asked.lent[1], out);
-    compare_case(c, &asked, steps.seed, steps.calls++, &expected, &given);
+    compare_asked(c);
     copy(record, &given.lent[0]);
     copy(out, &given.lent[1]);
 }

@@ -20,6 +20,9 @@ void start_steps(unsigned long seed, unsigned long stream);
 /* Ends the program where a run does not go as the papers say. */
 void demand(bool held, const char *what);
 
+/* One call with its case as it is set. */
+void compare_asked(const call *c);
+
 /* One call, with a buffer of its own; its record, or what else is lent to it first, is handed back. */
 void step(const call *c, octets *record, const octets *input, size_t room);
 

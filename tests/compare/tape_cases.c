@@ -396,8 +396,8 @@ void count_replayed(const test *t, int number)
         came.packets[record[AT_MODE]][strength_of(record[0])][number]++;
 }
 
-/* Prints how often something came; ends the program where it had to come and never did. */
-static void print_came(const char *what, unsigned long often, bool had_to)
+/* Behind what it is. */
+void print_came(const char *what, unsigned long often, bool had_to)
 {
     printf("%s (%lu)", what, often);
     if (often == 0 && had_to) {

@@ -26,6 +26,9 @@ size_t make_recorded(octets *tape, const octets *packet);
 /* Counts a step of a replay, with the number it answers. */
 void count_replayed(const test *t, int number);
 
+/* Prints how often something came; ends the program where it had to come and never did. */
+void print_came(const char *what, unsigned long often, bool had_to);
+
 /* Prints how often each kind came; ends the program where one never did though as many cases were asked for as bring all. */
 void every_tape_came(unsigned long cases);
 

@@ -48,13 +48,19 @@ use Rattle.mppe_walk.specs.Laws.{read-length as read-walk-length, rest-written}
 use Rattle.tape.specs.declared.Written.{Written as TapeWritten}
 use Rattle.tape.specs.declared.Next.{Next as TapeNext}
 use Rattle.tape.specs.declared.Replayed.{Replayed as TapeReplayed}
+use Rattle.tape.specs.Tape.{mostGroups}
 use Rattle.tape.specs.Replay.{replayed}
+use Rattle.marks.specs.declared.MarkRead.{MarkRead}
+use Rattle.marks.specs.declared.Checked.{Checked as Checks}
+use Rattle.marks.specs.Marks.{markRead, writeAnswer, writeOut as marksWriteOut, checked}
 use Rattle.host.specs.declared.Reply.{Reply}
 use Rattle.host.specs.declared.Opened.{Opened}
 use Rattle.host.specs.declared.Written.{Written}
 use Rattle.host.specs.declared.Next.{Next}
 use Rattle.host.specs.declared.Replayed.{Replayed}
-use Rattle.host.specs.Host.{Given, Linked, given, roleOf, directionOf, startKeyFrom, masterKeyFrom, credentialRows, startKeyGiven, choiceOctets, optionGiven, optionReply, choiceReply, noReply, replyOf, replyOctets, newLinkGiven, linkedBy, unchanged, linked, openedBy, walkedBy, stepped, walked, closedOctets, beginWalked, writtenOf, nextIn, stepWith, replayLinked, replayOffset, replayedBy}
+use Rattle.host.specs.declared.Mark.{Mark}
+use Rattle.host.specs.declared.MarksChecked.{MarksChecked}
+use Rattle.host.specs.Host.{Given, Linked, given, roleOf, directionOf, startKeyFrom, masterKeyFrom, credentialRows, startKeyGiven, choiceOctets, optionGiven, optionReply, choiceReply, noReply, replyOf, replyOctets, newLinkGiven, linkedBy, unchanged, linked, openedBy, walkedBy, stepped, walked, closedOctets, beginWalked, writtenOf, nextIn, stepWith, replayLinked, replayOffset, replayedBy, marksWritten, marksOut, marksChecked, markGiven, markTold}
 
 -- a call's number and the lent buffer after it are those of a definition ..
 abbrev pub Gave : ℕ → List ℕ → Given → Type 0
@@ -348,3 +354,54 @@ replay-made octets tape o out e h w eo =
     let is = w .0 in
     replay-told octets tape o out (linked-made call octets out e h (ap (λ (r : TapeReplayed). r .outcome) is, w .1) eo)
     (ap (λ (r : TapeReplayed). r .offset) is ∙ rw (← e, h))
+
+-- marks with the start record in lent octets: no record there, or the call on it
+module _ {read : RecordRead} (octets tape : List ℕ) (er : read ≡ recordRead octets) where
+  pub marks-unwritten : (out : List ℕ) → (read .answer ≡ done → ⊥)
+      → (_≡_ {A = Written} (record { answer = read .answer; length = 0 }) (marksWritten octets tape out)) × (out ≡ marksOut octets tape out)
+  unfolding marksWritten marksOut
+  marks-unwritten out h =
+      let refused : recordRead octets .answer ≡ done → ⊥ = λ z. h (ap (λ (r : RecordRead). r .answer) er ∙ z) in
+      (rw er (sym (not-done (recordRead octets .answer) _ _ refused)), sym (not-done (recordRead octets .answer) _ out refused))
+
+  pub marks-written : {w : TapeWritten} {after : List ℕ} (out : List ℕ) → read .answer ≡ done
+      → (w ≡ writeAnswer mostGroups longestPlain farthest (read .link) tape out) × (after ≡ marksWriteOut mostGroups longestPlain farthest (read .link) tape out)
+      → (_≡_ {A = Written} (record { answer = w .answer; length = w .length }) (marksWritten octets tape out)) × (after ≡ marksOut octets tape out)
+  unfolding marksWritten marksOut writtenOf
+  marks-written out z (ew, ea) =
+      let ok : recordRead octets .answer ≡ done = ap (λ (r : RecordRead). r .answer) (sym er) ∙ z in
+      (rw (ok, ew, er), rw ok (ea ∙ rw er))
+
+  pub marks-unchecked : (marks : List ℕ) → (read .answer ≡ done → ⊥)
+      → _≡_ {A = MarksChecked} (record { answer = read .answer; yes = false; agreeing = 0 }) (marksChecked octets tape marks)
+  unfolding marksChecked
+  marks-unchecked marks h =
+      let refused : recordRead octets .answer ≡ done → ⊥ = λ z. h (ap (λ (r : RecordRead). r .answer) er ∙ z) in
+      rw er (sym (not-done (recordRead octets .answer) _ _ refused))
+
+  pub marks-checked : {c : Checks} (marks : List ℕ) → read .answer ≡ done → c ≡ checked mostGroups longestPlain farthest (read .link) tape marks
+      → _≡_ {A = MarksChecked} (record { answer = c .answer; yes = c .yes; agreeing = c .agreeing }) (marksChecked octets tape marks)
+  unfolding marksChecked
+  marks-checked marks z ec =
+      let ok : recordRead octets .answer ≡ done = ap (λ (r : RecordRead). r .answer) (sym er) ∙ z in
+      rw (ok, ec, er)
+
+-- a mark read, refused and done
+module _ {read : MarkRead} {laid after : List ℕ} {code : ℕ} (octets out : List ℕ) (er : read ≡ markRead octets) (el : laid ≡ recordOctets (read .mark .link))
+    (eg : (code ≡ given (read .answer) laid out .code) × (after ≡ given (read .answer) laid out .buffer)) where
+  gave : (code ≡ markGiven octets out .code) × (after ≡ markGiven octets out .buffer)
+  unfolding markGiven
+  gave = (eg .0 ∙ rw (el, er), eg .1 ∙ rw (el, er))
+
+  pub mark-refused : (code ≡ done → ⊥) → (_≡_ {A = Mark} (record { answer = code; opened = 0; offset = 0 }) (markTold octets out)) × (after ≡ markGiven octets out .buffer)
+  unfolding markTold
+  mark-refused h =
+      let refused : markGiven octets out .code ≡ done → ⊥ = λ z. h (gave .0 ∙ z) in
+      (rw (gave .0, not-done (markGiven octets out .code) (markRead octets .mark .opened) 0 refused, not-done (markGiven octets out .code) (markRead octets .mark .offset) 0 refused), gave .1)
+
+  pub mark-told : code ≡ done
+      → (_≡_ {A = Mark} (record { answer = code; opened = read .mark .opened; offset = read .mark .offset }) (markTold octets out)) × (after ≡ markGiven octets out .buffer)
+  unfolding markTold
+  mark-told z =
+      let ok : markGiven octets out .code ≡ done = sym (gave .0) ∙ z in
+      (rw (ok, z, er), gave .1)

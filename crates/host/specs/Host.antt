@@ -37,12 +37,18 @@ use Rattle.tape.specs.declared.Written.{Written as TapeWritten}
 use Rattle.tape.specs.declared.Next.{Next as TapeNext}
 use Rattle.tape.specs.Tape.{mostGroups}
 use Rattle.tape.specs.Replay.{Step as TapeStep, held, replayStep}
+use Rattle.marks.specs.declared.Mark.{Mark as TapeMark}
+use Rattle.marks.specs.declared.MarkRead.{MarkRead}
+use Rattle.marks.specs.declared.Checked.{Checked as Checks}
+use Rattle.marks.specs.Marks.{markRead, writeAnswer, writeOut, checked}
 use Rattle.sstp.specs.declared.Key.{Key}
 use Rattle.sstp.specs.Binding.{baseKeyAnswer, bindingKeyAnswer}
 use Rattle.host.specs.declared.Check.{Check}
 use Rattle.host.specs.declared.Reply.{Reply}
 use Rattle.host.specs.declared.Opened.{Opened}
 use Rattle.host.specs.declared.Written.{Written}
+use Rattle.host.specs.declared.Mark.{Mark}
+use Rattle.host.specs.declared.MarksChecked.{MarksChecked}
 use Rattle.host.specs.declared.Next.{Next}
 use Rattle.host.specs.declared.Replayed.{Replayed}
 
@@ -251,3 +257,31 @@ replayOffset octets tape offset out =
 
 unfoldable pub replayedBy : Linked → (offset : ℕ) → Replayed
 replayedBy l offset = record { answer = l .code; changes = l .changed; offset = offset }
+
+-- marks beside a tape (02, M-111), with the start record in lent octets: 7 where these hold no record; the list written ..
+unfoldable pub marksWritten : (octets tape out : List ℕ) → Written
+marksWritten octets tape out =
+    let read : RecordRead = recordRead octets in
+    onDone (read .answer) (writtenOf (writeAnswer mostGroups longestPlain farthest (read .link) tape out)) (record { answer = read .answer; length = 0 })
+
+unfoldable pub marksOut : (octets tape out : List ℕ) → List ℕ
+marksOut octets tape out =
+    let read : RecordRead = recordRead octets in
+    onDone (read .answer) (writeOut mostGroups longestPlain farthest (read .link) tape out) out
+
+-- .. and checked
+unfoldable pub marksChecked : (octets tape marks : List ℕ) → MarksChecked
+marksChecked octets tape marks =
+    let read : RecordRead = recordRead octets in
+    let c : Checks = checked mostGroups longestPlain farthest (read .link) tape marks in
+    onDone (read .answer) (record { answer = c .answer; yes = c .yes; agreeing = c .agreeing }) (record { answer = read .answer; yes = false; agreeing = 0 })
+
+-- a mark read: its link record into lent octets, 2 where these are too few, and its numbers
+unfoldable pub markGiven : (octets out : List ℕ) → Given
+markGiven octets out = let r : MarkRead = markRead octets in given (r .answer) (recordOctets (r .mark .link)) out
+
+unfoldable pub markTold : (octets out : List ℕ) → Mark
+markTold octets out =
+    let code : ℕ = markGiven octets out .code in
+    let m : TapeMark = markRead octets .mark in
+    record { answer = code; opened = onDone code (m .opened) 0; offset = onDone code (m .offset) 0 }

@@ -9,7 +9,7 @@ ghost use Rattle.ccp.specs.Reset.{writeResetCode, writeResetOut};
 ghost use Rattle.mppe_record.specs.Record.{recordLength, recordOctets};
 ghost use Rattle.mppe_walk.specs.Walk.{walkLength, walkOctets};
 ghost use Rattle.tape.specs.Tape.{mostGroups, longestPacket, nextOf, beginCode, beginOut, writeAnswer, writeOut, readAt};
-ghost use Rattle.host.specs.Host.{given, checkOf, ntResponseGiven, authenticatorStringGiven, roleOf, directionOf, baseKeyGiven, bindingKeyGiven, startKeyFrom, masterKeyFrom, credentialRows, startKeyGiven, choiceOctets, allowedOf, optionGiven, optionReply, choiceReply, noReply, newLinkGiven, sealLinked, openLinked, openedBy, resetLinked, closedOctets, beginWalked, feedWalked, endWalked, writtenOf, nextIn, replayLinked, replayOffset, replayedBy};
+ghost use Rattle.host.specs.Host.{given, checkOf, ntResponseGiven, authenticatorStringGiven, roleOf, directionOf, baseKeyGiven, bindingKeyGiven, startKeyFrom, masterKeyFrom, credentialRows, startKeyGiven, choiceOctets, allowedOf, optionGiven, optionReply, choiceReply, noReply, newLinkGiven, sealLinked, openLinked, openedBy, resetLinked, closedOctets, beginWalked, feedWalked, endWalked, writtenOf, nextIn, replayLinked, replayOffset, replayedBy, marksWritten, marksOut, marksChecked, markGiven, markTold};
 use ccp::Choice;
 use ccp::Strengths;
 use mppe::Link;
@@ -73,6 +73,22 @@ pub struct Replayed {
     pub answer: u8,
     pub changes: u16,
     pub offset: usize,
+}
+
+// The number answered, how many packets were opened before a mark, and the offset that follows; 0 where it is refused.
+#[repr(C)]
+pub struct Mark {
+    pub answer: u8,
+    pub opened: u64,
+    pub offset: usize,
+}
+
+// The number answered, whether a list is that of a tape's marks, and how many of them it has from the first on; a refusal is a no, and 0.
+#[repr(C)]
+pub struct MarksChecked {
+    pub answer: u8,
+    pub yes: bool,
+    pub agreeing: usize,
 }
 
 // Whether a received NT-Response is the one that the password gives.
@@ -435,6 +451,74 @@ pub extern "C" fn udukemb_tape_replay(
         answer: outcome.answer,
         changes: outcome.changes,
         offset: replayed.offset,
+    }
+}
+
+// Writes the list of a tape's marks, with the start record in lent octets.
+#[no_mangle]
+pub extern "C" fn udukemb_marks_write(link_record: &[u8], tape: &[u8], out: &mut [u8]) -> Written
+    ensures { λ r. ⌜ (r ≡ marksWritten (now (link_record .entry)) (now (tape .entry)) (now (out .entry)))
+        × (now (out .exit) ≡ marksOut (now (link_record .entry)) (now (tape .entry)) (now (out .entry))) ⌝ }
+{
+    let read = read_record(link_record);
+    if read.answer != answer::DONE {
+        return Written {
+            answer: read.answer,
+            length: 0,
+        };
+    }
+    let link = read.link;
+    let written = marks::write(link, tape, out);
+    Written {
+        answer: written.answer,
+        length: written.length,
+    }
+}
+
+// Reads a mark, and writes its link record into lent octets.
+#[no_mangle]
+pub extern "C" fn udukemb_marks_read(mark: &[u8], link_record: &mut [u8]) -> Mark
+    ensures { λ r. ⌜ (r ≡ markTold (now (mark .entry)) (now (link_record .entry)))
+        × (now (link_record .exit) ≡ markGiven (now (mark .entry)) (now (link_record .entry)) .buffer) ⌝ }
+{
+    let read = marks::read(mark);
+    let held = read.mark;
+    let link = held.link;
+    let octets = record_octets(link);
+    let code = give(read.answer, &octets, link_record);
+    if code != answer::DONE {
+        return Mark {
+            answer: code,
+            opened: 0,
+            offset: 0,
+        };
+    }
+    Mark {
+        answer: code,
+        opened: held.opened,
+        offset: held.offset,
+    }
+}
+
+// Checks a list against the marks of a tape, with the start record in lent octets.
+#[no_mangle]
+pub extern "C" fn udukemb_marks_check(link_record: &[u8], tape: &[u8], marks: &[u8]) -> MarksChecked
+    ensures { λ r. ⌜ r ≡ marksChecked (now (link_record .entry)) (now (tape .entry)) (now (marks .entry)) ⌝ }
+{
+    let read = read_record(link_record);
+    if read.answer != answer::DONE {
+        return MarksChecked {
+            answer: read.answer,
+            yes: false,
+            agreeing: 0,
+        };
+    }
+    let link = read.link;
+    let checked = marks::check(link, tape, marks);
+    MarksChecked {
+        answer: checked.answer,
+        yes: checked.yes,
+        agreeing: checked.agreeing,
     }
 }
 
