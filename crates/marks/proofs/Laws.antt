@@ -2,31 +2,31 @@
 use mathlib.Core.Path.{_≡_, refl, sym, ap, _∙_}
 use mathlib.Core.Bool.{Bool, true, false, not, _&&_, true≢false}
 use mathlib.Core.List.{List, [], _∷_, _++_, append-assoc, append-nil}
-use Prim.Native.Nat.{ℕ, zero, suc, _+_, _*_, _-_, _/_, _%_, _^_, _<_, _≤_}
+use Prim.Native.Nat.{ℕ, zero, suc, _+_, _*_, _-_, _/_, _^_, _<_, _≤_}
 use native.Mathlib.Numerals.{add-one}
 use native.Mathlib.Omega.{arith}
 use lib.Dec.{eqb, ltb, eqb·suc-zero, eqb·suc-suc}
 use lib.ListN.{length, take, drop, getD, replicate, length-append, length-drop, length-take, length-replicate}
 use lib.Seq.{take-all, take-at, take-add, drop-at, drop-drop, getD-drop}
-use borrow.Author.Tests.{eq-eqb, ne-eqb, lt-ltb, le-ltb, eqb-true, eqb-false, ltb-true, ltb-false, not-true, not-false}
+use borrow.Author.Tests.{eq-eqb, ne-eqb, lt-ltb, le-ltb, eqb-true, eqb-false, not-true, not-false}
 use Rattle.answer.specs.Answer.{done, room, size, notRecord, pick, outside, firstOf, onDone}
 use Rattle.answer.specs.Laws.{both, outside-none, test-under}
 use Rattle.octets.specs.Octets.{bigEndian, fromBigEndian, written, writtenAt, equal}
-use Rattle.octets.specs.Laws.{append-more, copy-fits, written-more, equal-lengths, equal-same, equal-true}
+use Rattle.octets.specs.Laws.{append-more, written-more, equal-lengths, equal-same, equal-true}
 use Rattle.mppe_keys.specs.declared.Strength.the-variants.{Bits40}
 use Rattle.mppe_keys.specs.declared.Mode.{Mode}
 use Rattle.mppe_keys.specs.declared.Mode.the-variants.{Stateless, Stateful}
 use Rattle.mppe_keys.specs.Keys.{byMode}
 use Rattle.mppe.specs.declared.Link.{Link}
 use Rattle.mppe.specs.declared.Outcome.{Outcome}
-use Rattle.mppe.specs.Link.{front, shortestPlain, longestPlain, farthest, wellFormed, noLink, openResult}
+use Rattle.mppe.specs.Link.{front, longestPlain, farthest, wellFormed, noLink, openResult}
 use Rattle.mppe.specs.Laws.{open-front}
 use Rattle.mppe_record.specs.declared.RecordRead.{RecordRead}
 use Rattle.mppe_record.specs.Record.{noStrength, frontOctets, noRecord, frontLength, statelessIn, statelessRead}
 use Rattle.mppe_record.specs.Laws.{Sized}
 use Rattle.tape.specs.declared.Next.{Next}
 use Rattle.tape.specs.declared.Written.{Written}
-use Rattle.tape.specs.Tape.{shortestPacket, longestPacket, mostGroups, Read, Contents, behind, recordSize, onPacket, nextOf, readAt, readFrom, contents}
+use Rattle.tape.specs.Tape.{shortestPacket, longestPacket, mostGroups, Read, behind, onPacket, nextOf, readAt, readFrom, contents}
 use Rattle.tape.specs.Laws.{read-moves, reads-on, reads-none}
 use Rattle.marks.specs.declared.Mark.{Mark}
 use Rattle.marks.specs.declared.MarkRead.{MarkRead}

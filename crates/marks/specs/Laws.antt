@@ -1,33 +1,29 @@
 -- What holds of marks and walks: `check-yes` says when a check says yes, and `write-yes` that it does so to what a write gives.
-use mathlib.Core.Path.{_≡_, refl, sym, ap, _∙_}
+use mathlib.Core.Path.{_≡_, refl, sym, _∙_}
 use mathlib.Core.Bool.{Bool, true, false, not, false≢true}
 use mathlib.Core.Logic.{_↔_}
-use mathlib.Core.List.{List, [], _∷_, _++_, append-assoc, append-nil}
+use mathlib.Core.List.{List, [], _∷_, _++_, append-assoc}
 use Prim.Native.Nat.{ℕ, zero, suc, _+_, _*_, _-_, _/_, _%_, _^_, _<_, _≤_}
 use native.Mathlib.Nat.{mod-eq-of-lt}
 use native.Mathlib.Omega.{arith}
 use lib.Dec.{eqb, ltb, eqb·suc-zero}
-use lib.ListN.{length, take, drop, getD, replicate, length-append, length-drop, length-replicate, drop-of-length-le}
-use lib.Seq.{take-at, drop-at, drop-drop, getD-drop, take-append-seam, take-all}
-use borrow.Author.Tests.{lt-ltb, le-ltb, ltb-true, ltb-false, eq-eqb, ne-eqb, eqb-true, eqb-false}
+use lib.ListN.{length, take, drop, getD, replicate, length-append}
+use lib.Seq.{take-append-seam}
+use borrow.Author.Tests.{le-ltb, ltb-true, ltb-false, eq-eqb, ne-eqb}
 use Rattle.answer.specs.Answer.{done, room, notRecord, waiting, pick, firstOf, onDone}
-use Rattle.answer.specs.Laws.{refusals, rows-passed}
 use Rattle.octets.specs.Octets.{bigEndian, fromBigEndian, written, equal}
 use Rattle.octets.specs.Laws.{bigEndian-length, bigEndian-back, equal-same, equal-true}
-use Rattle.rc4.specs.Laws.{run-length}
 use Rattle.mppe_keys.specs.declared.Mode.{Mode}
 use Rattle.mppe_keys.specs.declared.Mode.the-variants.{Stateless, Stateful}
 use Rattle.mppe_keys.specs.Keys.{byMode, bitsOf}
 use Rattle.mppe.specs.declared.Link.{Link}
-use Rattle.mppe.specs.declared.Outcome.{Outcome}
-use Rattle.mppe.specs.Link.{front, wellFormed, headerIn, dataIn, stateFor, plainFor, openCode, openedBy, openResult, refusal, waited}
-use Rattle.mppe.specs.Laws.{open-answers, open-well, open-room, outcome-by}
+use Rattle.mppe.specs.Link.{front, wellFormed, headerIn, dataIn, openCode, openedBy, openResult, refusal, waited}
+use Rattle.mppe.specs.Laws.{open-well}
 use Rattle.mppe_record.specs.Record.{frontOctets}
 use Rattle.mppe_record.specs.Laws.{bits-known, Sized, frontOctets-length, statelessIn-back, open-sized}
-use Rattle.tape.specs.Tape.{recordSize, recordOf, recordsOf, contents}
+use Rattle.tape.specs.Tape.{contents}
 use Rattle.marks.specs.declared.Mark.{Mark}
-use Rattle.marks.specs.declared.MarkRead.{MarkRead}
-use Rattle.marks.specs.Marks.{every, markLength, markOf, markOctets, marksOctets, markIn, markRead, Opened, startAt, agreeing, opened, onward, walk, reached, kept, marksFrom, marksOf, walkRows, writeCode, writeAnswer, writeOut, checked}
+use Rattle.marks.specs.Marks.{every, markLength, markOctets, marksOctets, markIn, markRead, opened, onward, walk, reached, kept, marksFrom, marksOf, writeCode, writeAnswer, writeOut, checked}
 
 -- a mark whose numbers fit their octets, with a well-formed stateless record
 abbrev pub Whole : Link → Type 0
@@ -198,3 +194,12 @@ module _ (k limit far : ℕ) where
   marks-length m (p ∷ ps) whole =
       let next : Mark = onward k limit far m p in
       whole-append (kept k limit far m p) (marksFrom k limit far next ps) (kept-whole m p whole) (marks-length next ps (onward-whole m p whole))
+
+  -- there are as many marks as full numbers of 256 opened packets
+  pub marks-number : (m : Mark) (ps : List (List ℕ)) → m .opened / every + length (marksFrom k limit far m ps) ≡ reached k limit far m ps .opened / every
+  unfolding marksFrom reached
+  marks-number m [] = omega arith
+  marks-number m (p ∷ ps) =
+      let next : Mark = onward k limit far m p in
+      let more = length-append (kept k limit far m p) (marksFrom k limit far next ps) in
+      omega (arith, more, kept-count m p, marks-number next ps)

@@ -6,19 +6,18 @@ use Prim.Native.Nat.{ℕ, zero, suc, _+_, _*_, _-_, _/_, _%_, _^_, _<_, _≤_}
 use native.Mathlib.Omega.{arith}
 use lib.Dec.{eqb, ltb}
 use lib.ListN.{length, take, drop, getD, replicate, length-append, length-drop, length-replicate, drop-of-length-le}
-use lib.Seq.{take-at, drop-at, drop-drop, take-append-seam, drop-append-seam, drop-append-add}
+use lib.Seq.{take-at, drop-at, take-append-seam, drop-append-add}
 use borrow.Author.Tests.{ltb-true, ltb-false}
 use Rattle.answer.specs.Answer.{done, waiting, pick, onDone}
 use Rattle.answer.specs.Laws.{within}
-use Rattle.octets.specs.Octets.{Octets, written}
+use Rattle.octets.specs.Octets.{Octets}
 use Rattle.rc4.specs.Cipher.{run}
 use Rattle.rc4.specs.Laws.{run-length}
 use Rattle.mppe.specs.declared.Link.{Link}
 use Rattle.mppe.specs.declared.Outcome.{Outcome}
-use Rattle.mppe.specs.Link.{front, longestPlain, farthest, wellFormed, Result, headerIn, dataIn, stateFor, plainFor, openCode, openedBy, openResult, refusal, waited}
-use Rattle.mppe.specs.Laws.{open-answers, open-room, outcome-by}
-use Rattle.mppe_record.specs.Laws.{Sized}
-use Rattle.tape.specs.Tape.{firstOctet, shortestPacket, mostGroups, Contents, recordSize, recordOf, recordsOf, tapeOf, Writable, readFrom, contents, holding, ReadsBack}
+use Rattle.mppe.specs.Link.{front, longestPlain, farthest, Result, headerIn, dataIn, stateFor, plainFor, openCode, openedBy, openResult, refusal, waited}
+use Rattle.mppe.specs.Laws.{open-room}
+use Rattle.tape.specs.Tape.{firstOctet, shortestPacket, mostGroups, groups, Contents, recordSize, recordOf, recordsOf, tapeOf, Writable, readFrom, contents, holding, ReadsBack}
 use Rattle.tape.specs.Laws.{reads-records, records-only, reads-back, records-count, records-append, writable-behind}
 use Rattle.tape.specs.Replay.{Step, Held, held, heldBy, fed, replay, heldAfter, atEnd}
 use Rattle.tape.specs.ReplayLaws.{replay-from}
@@ -26,7 +25,7 @@ use Rattle.marks.specs.declared.Mark.{Mark}
 use Rattle.marks.specs.declared.MarkRead.{MarkRead}
 use Rattle.marks.specs.Marks.{every, markLength, markOctets, marksOctets, markRead, startAt, Opened, opened, onward, walk, reached, kept, marksFrom, marksOf, checked}
 use Rattle.marks.specs.Resume.{Shows, ShowsTo, markAt, Resumes, OpensOn}
-use Rattle.marks.specs.Laws.{Whole, Markable, mark-length, mark-back, check-yes, onward-whole, onward-opened, kept-is, kept-count, marks-length}
+use Rattle.marks.specs.Laws.{Whole, Markable, mark-length, mark-back, check-yes, onward-whole, onward-opened, kept-is, marks-length, marks-number}
 
 module _ (k limit far : ℕ) where
   -- a walk over two lists, one behind the other
@@ -228,6 +227,38 @@ module _ (k limit far : ℕ) (fits : front + limit < 128 ^ k) where
     where
       whole : (ps : List (List ℕ)) (a o : ℕ) → a ≡ done → o ≡ length tape → _≡_ {A = Contents} (record { packets = ps; answer = a; offset = o }) (holding tape ps)
       whole ps a o e last = rw (e, last)
+
+  -- a record has seven octets at least: so a room of one octet for every 35 of the tape has room for its list
+  one-group : (k n : ℕ) → 0 < k → 1 ≤ length (groups k n)
+  unfolding groups
+  one-group zero n h = absurd (omega arith)
+  one-group (suc k) n h = by (ltb n 128)
+    where
+      by : (t : Bool) → 1 ≤ length (pick t (n ∷ []) ((128 + n % 128) ∷ groups k (n / 128)))
+      by true = omega arith
+      by false = omega arith
+
+  some-group : (k : ℕ) → front + limit < 128 ^ k → 0 < k
+  some-group zero h = absurd (omega (arith, h))
+  some-group (suc k) h = omega arith
+
+  records-seven : (ps : List (List ℕ)) → Writable (front + limit) ps → 7 * length ps ≤ length (recordsOf k ps)
+  unfolding Writable recordsOf recordOf
+  records-seven [] all = omega arith
+  records-seven (p ∷ ps) (fit, all) =
+      let low = within shortestPacket (front + limit) (length p) fit .0 in
+      simp length-append (omega (arith, one-group k (length p) (some-group k fits), records-seven ps all))
+
+  pub list-short : (start : Link) (tape : List ℕ) → Whole start → Octets tape → contents k (front + limit) tape .answer ≡ done
+      → 35 * length (marksOctets (marksOf k limit far start tape)) ≤ length tape
+  unfolding marksOf tapeOf
+  list-short start tape whole octets e =
+      let ps : List (List ℕ) = contents k (front + limit) tape .packets in
+      let (all, is) = holds tape octets e in
+      let size : length tape ≡ suc (length (recordsOf k ps)) = ap (λ l. length l) is in
+      let long = marks-length k limit far (startAt start) ps whole in
+      let number = marks-number k limit far (startAt start) ps in
+      omega (arith, size, records-seven ps all, long, number, reached-opened k limit far (startAt start) ps)
 
   -- what holds behind any packet of such a tape
   resumes : (start : Link) (tape : List ℕ) (before behind : List (List ℕ)) → Whole start → contents k (front + limit) tape .packets ≡ before ++ behind

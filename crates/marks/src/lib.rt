@@ -2,13 +2,13 @@
 ghost use mathlib.Core.Path.{_≡_};
 ghost use mathlib.Core.Bool.{true, false, not, _&&_};
 ghost use Prim.Native.Nat.{suc, _+_, _*_, _-_, _/_, _≤_, _<_};
-ghost use lib.Dec.{eqb, ltb};
+ghost use lib.Dec.{ltb};
 ghost use lib.ListN.{length, take, drop, replicate};
-ghost use Rattle.answer.specs.Answer.{pick, outside, onDone};
+ghost use Rattle.answer.specs.Answer.{outside, onDone};
 ghost use Rattle.octets.specs.Octets.{fromBigEndian, written, writtenAt, equal};
 ghost use Rattle.mppe_keys.specs.declared.Mode.the-variants.{Stateless};
 ghost use Rattle.mppe_keys.specs.Keys.{byMode};
-ghost use Rattle.mppe.specs.Link.{front, shortestPlain, longestPlain, farthest, wellFormed, openResult};
+ghost use Rattle.mppe.specs.Link.{front, longestPlain, farthest, wellFormed, openResult};
 ghost use Rattle.tape.specs.Tape.{shortestPacket, longestPacket, mostGroups, onPacket, readAt};
 ghost use Rattle.marks.specs.Marks.{every, markLength, markOctets, marksOctets, noMark, markRead, onward, marksOf, writeAnswer, writeOut, checked};
 ghost use Rattle.marks.specs.Inner.{Begins, found, agreedOn};

@@ -9,7 +9,7 @@ use lib.ListN.{length, take, drop, getD, replicate, length-append, length-drop, 
 use lib.Seq.{length-take-le, take-all, take-at, drop-at, drop-drop, take-add, drop-cons, getD-drop}
 use borrow.Author.Tests.{eq-eqb, eqb-true, ltb-false}
 use Rattle.answer.specs.Answer.{done, size, notRecord, waiting, pick, firstOf, onDone}
-use Rattle.octets.specs.Octets.{Octets, bigEndian, pairAt}
+use Rattle.octets.specs.Octets.{Octets, bigEndian}
 use Rattle.rc4.specs.declared.Rc4.{Rc4}
 use Rattle.rc4.specs.Cipher.{box, unkeyed, keySchedule, after}
 use Rattle.rc4.specs.Permutation.{below-length, unkeyed-is, Sized as StateSized, keyed-sized, after-sized}

@@ -1,18 +1,15 @@
 -- Octets found and compared, texts joined, digits written, and the ways out of the calls.
 use mathlib.Core.Path.{_≡_, refl, sym, ap, _∙_}
-use mathlib.Core.Bool.{Bool, true, false, not, _&&_, and-assoc, and-true}
-use mathlib.Core.List.{List, [], _∷_, _++_, append-assoc, append-nil}
-use Prim.Native.Nat.{ℕ, zero, suc, _+_, _*_, _-_, _/_, _%_, _≤_, _<_}
+use mathlib.Core.Bool.{Bool, false}
+use mathlib.Core.List.{List, [], _∷_, _++_, append-nil}
+use Prim.Native.Nat.{ℕ, _+_, _*_, _-_, _/_, _%_, _≤_, _<_}
 use native.Mathlib.Numerals.{add-one}
-use native.Mathlib.Nat.{not-suc-le-zero}
-use native.Mathlib.Decide.{ℕ-discrete}
 use native.Mathlib.Omega.{arith}
-use lib.Bits.{bitOr, bitXor, or-add-and, xor-add-and, and-le-l, and-le-r, xor-self}
 use lib.Dec.{eqb, ltb, eqb→eq}
 use lib.ListN.{length, take, drop, replicate, getD, length-append, length-drop, length-replicate, drop-of-length-le}
-use lib.Seq.{split-at, drop-drop, take-all, take-at, take-suc, take-append-seam, drop-append-add, length-take-le}
+use lib.Seq.{split-at, drop-drop, take-all, take-at, take-suc, length-take-le}
 use borrow.Author.Tests.{ltb-false, lt-ltb, le-ltb, eq-eqb, ne-eqb}
-use Rattle.answer.specs.Answer.{done, size, pick, firstOf, onDone, wrong}
+use Rattle.answer.specs.Answer.{done, size, pick, firstOf, wrong}
 use Rattle.answer.specs.Laws.{clear, rows-pass, rows-stop, told}
 use Rattle.octets.specs.Octets.{written, writtenAt, equal, longestText}
 use Rattle.octets.specs.Below.{below}

@@ -7,7 +7,7 @@ use native.Mathlib.Omega.{arith}
 use lib.Dec.{eqb, ltb}
 use lib.ListN.{length, take, drop, length-append}
 use lib.Seq.{length-take-le}
-use borrow.Author.Tests.{le-ltb, eq-eqb, eqb-true}
+use borrow.Author.Tests.{le-ltb, eq-eqb}
 use Rattle.answer.specs.Answer.{done, size, domain, pick, wrong, firstOf}
 use Rattle.answer.specs.Laws.{right, never}
 use Rattle.octets.specs.Laws.{equal-same, equal-true}

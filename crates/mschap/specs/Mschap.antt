@@ -1,7 +1,6 @@
 -- MS-CHAPv2's hashes, responses and authenticator string (RFC 2759, sections 8.1 to 8.8), as 01, "MS-CHAPv2", condenses them.
 use mathlib.Core.List.{List, [], _∷_, _++_}
 use Prim.Native.Nat.{ℕ, _/_, _%_}
-use lib.Dec.{eqb}
 use lib.ListN.{take, drop, replicate, getD}
 use Rattle.md4.specs.Md4.{md4}
 use Rattle.sha1.specs.Sha1.{sha1}

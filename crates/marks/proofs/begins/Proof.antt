@@ -17,7 +17,7 @@ is-stateful-requires : tie.Need-is-stateful-requires
 is-stateful-requires c κs = search needs
 
 returns-2 : tie.Need-returns-2
-returns-2 c = 
+returns-2 c =
     let well = c .before in
     begins-well _ (well .before .well-formed .ensures) (well .if1 .left) (c .is-stateful .ensures)
 

@@ -1,4 +1,3 @@
-use native.Mathlib.Omega.{arith}
 use Rattle.marks.proofs.Laws.{beyond-list, stands-is}
 use borrow.Author.Needs.{needs}
 use Rattle.marks.proofs.stands_at.Statement.{statement}
