@@ -38,6 +38,9 @@
  *       udukemb_check_response          2800
  *       udukemb_end                     3000
  *       udukemb_feed                    3800
+ *       udukemb_marks_check             6200
+ *       udukemb_marks_read              1400
+ *       udukemb_marks_write             6900
  *       udukemb_new_link                 900
  *       udukemb_nt_response             2800
  *       udukemb_open                    4800

@@ -195,17 +195,34 @@ module _ (k most : ℕ) (fits : most < 128 ^ k) where
           end (eqb-true (getD tape 0 0) firstOctet first, low, high) (eqb o (length tape)) refl
       place (suc c) e = inl (suc c, 0, rw e, λ z. absurd (omega arith))
 
+  -- reading on from an offset gives the packet there, and behind it what reading on gives; or it ends there
+  one-read : (n : ℕ) (tape : List ℕ) (o : ℕ) → (readAt k most tape o .packet ≡ [] → ⊥)
+      → readOn k most (suc n) tape o ≡ behind (readAt k most tape o .packet) (readOn k most n tape (readAt k most tape o .offset))
+  unfolding readOn
+  one-read n tape o some = by (readAt k most tape o .packet) some
+    where
+      rest : Contents
+      rest = readOn k most n tape (readAt k most tape o .offset)
+
+      by : (p : List ℕ) → (p ≡ [] → ⊥) → onPacket p (behind p rest) (ended (readAt k most tape o)) ≡ behind p rest
+      by [] some = absurd (some refl)
+      by (x ∷ xs) some = refl
+
+  pub reads-none : (n : ℕ) (tape : List ℕ) (o : ℕ) → readAt k most tape o .packet ≡ [] → readOn k most n tape o ≡ ended (readAt k most tape o)
+  unfolding readOn
+  reads-none zero tape o e = refl
+  reads-none (suc n) tape o e = rw e
+
   on-none : (n : ℕ) (tape : List ℕ) (o code after : ℕ) → readAt k most tape o ≡ reading code [] after
       → readOn k most n tape o ≡ ended (reading code [] after)
-  unfolding readOn
-  on-none zero tape o code after e = rw e
-  on-none (suc n) tape o code after e = rw e
+  on-none n tape o code after e = reads-none n tape o (ap (λ (r : Read). r .packet) e) ∙ ap (λ (r : Read). ended r) e
 
   on-some : (n : ℕ) (tape : List ℕ) (o : ℕ) (p : List ℕ) → shortestPacket ≤ length p
       → readAt k most tape o ≡ reading done p (o + recordSize k (length p))
       → readOn k most (suc n) tape o ≡ behind p (readOn k most n tape (o + recordSize k (length p)))
-  unfolding readOn
-  on-some n tape o p h e = rw e (on-packet p _ _ h)
+  on-some n tape o p h e =
+      let some : readAt k most tape o .packet ≡ [] → ⊥ = λ z. omega (arith, h, ap (λ (l : List ℕ). length l) (sym (ap (λ (r : Read). r .packet) e) ∙ z)) in
+      one-read n tape o some ∙ ap (λ (r : Read). behind (r .packet) (readOn k most n tape (r .offset))) e
 
   -- records that stand behind an offset are read, if there are as many reads
   pub reads-records : (n : ℕ) (tape : List ℕ) (o : ℕ) (ps : List (List ℕ)) → getD tape 0 0 ≡ firstOctet → 1 ≤ o → o ≤ length tape → length ps ≤ n
@@ -304,19 +321,7 @@ module _ (k most : ℕ) (fits : most < 128 ^ k) where
           let (_, on, inside, fit) = read-moves tape o (λ z. cons-some (sym e ∙ z)) in
           rw (ih (omega (arith, fit .0)))
 
-  -- .. so reading on from an offset gives the packet there, and behind it what reading on gives; or it ends there
-  one-read : (n : ℕ) (tape : List ℕ) (o : ℕ) → (readAt k most tape o .packet ≡ [] → ⊥)
-      → readOn k most (suc n) tape o ≡ behind (readAt k most tape o .packet) (readOn k most n tape (readAt k most tape o .offset))
-  unfolding readOn
-  one-read n tape o some = by (readAt k most tape o .packet) some
-    where
-      rest : Contents
-      rest = readOn k most n tape (readAt k most tape o .offset)
-
-      by : (p : List ℕ) → (p ≡ [] → ⊥) → onPacket p (behind p rest) (ended (readAt k most tape o)) ≡ behind p rest
-      by [] some = absurd (some refl)
-      by (x ∷ xs) some = refl
-
+  -- .. so that reading on to the end does so too
   pub reads-on : (tape : List ℕ) (o : ℕ) → (readAt k most tape o .packet ≡ [] → ⊥)
       → readFrom k most tape o ≡ behind (readAt k most tape o .packet) (readFrom k most tape (readAt k most tape o .offset))
   reads-on tape o some = by (length tape) refl
@@ -329,11 +334,6 @@ module _ (k most : ℕ) (fits : most < 128 ^ k) where
       by (suc n) h =
           let (_, on, inside, fit) = read-moves tape o some in
           rw (reads-enough n tape after (omega (arith, fit .0))) (one-read n tape o some)
-
-  pub reads-none : (n : ℕ) (tape : List ℕ) (o : ℕ) → readAt k most tape o .packet ≡ [] → readOn k most n tape o ≡ ended (readAt k most tape o)
-  unfolding readOn
-  reads-none zero tape o e = refl
-  reads-none (suc n) tape o e = rw e
 
   -- there are fewer records than octets
   pub records-count : (ps : List (List ℕ)) → Writable most ps → length ps ≤ length (recordsOf k ps)

@@ -26,7 +26,8 @@ outcome-of-requires c κs =
 
 counted-requires : tie.Need-counted-requires
 counted-requires c κs =
-    let a = c .before .before .before .before .before .before in
+    let found = c .before .before .before in
+    let a = found .before .before .before in
     omega (arith, a .pre .2, a .good)
 
 returns : tie.Need-returns

@@ -6,10 +6,15 @@ use Rattle.marks.proofs.check.Statement.{statement}
 use Rattle.marks.proofs.check.Tie as tie
 
 -- the record that it begins with: a walk may, and it has the sizes of the code's struct
-begun : (e : tie.Else1) → Begins (e .before .before .before .before .args .start)
+abbrev start : tie.Else1 → tie.Start
+start e =
+    let asked = e .before in
+    asked .before .before .before
+
+begun : (e : tie.Else1) → Begins (start e .args .start)
 begun e = begins-told _ (e .before .begins .ensures) (e .if1 .left)
 
-whole : (e : tie.Else1) → Whole (e .before .before .before .before .args .start)
+whole : (e : tie.Else1) → Whole (start e .args .start)
 whole e = (begun e .0, begun e .1, (search needs, search needs, search needs, (search needs, search needs, search needs)))
 
 begins-requires : tie.Need-begins-requires
@@ -34,7 +39,7 @@ returns-2 : tie.Need-returns-2
 returns-2 c =
     let walked = c .before .before in
     let e = walked .before in
-    let s = e .before .before .before .before .args in
+    let s = start e .args in
     check-faulty (s .start) (s .tape .now) (s .marks .now) (begun e) (walked .compared .ensures .0) (c .before .if2 .taken) (c .refused-check2 .ensures)
 
 mul-t20 : tie.Need-mul-t20
@@ -45,7 +50,7 @@ returns-3 c =
     let good = c .before in
     let walked = good .before in
     let e = walked .before in
-    let s = e .before .before .before .before .args in
+    let s = start e .args in
     check-same (s .start) (s .tape .now) (s .marks .now) (begun e) (walked .compared .ensures .0) (whole e) (good .if2 .left) (c .if3 .taken)
 
 returns-4 : tie.Need-returns-4
@@ -53,7 +58,7 @@ returns-4 c =
     let good = c .before in
     let walked = good .before in
     let e = walked .before in
-    let s = e .before .before .before .before .args in
+    let s = start e .args in
     check-other (s .start) (s .tape .now) (s .marks .now) (begun e) (walked .compared .ensures .0) (whole e) (good .if2 .left) (c .if3 .left)
 
 pub check-spec : {M : Type 1} → statement M

@@ -12,16 +12,25 @@ Inv-loop tape marks at₀ agreeing₀ at agreeing = Compares (at₀ .link) tape 
 abbrev μ-loop : tie.MeasureT-loop
 μ-loop tape marks at₀ agreeing₀ at agreeing = suc (length tape) - at .offset
 
+-- the loop's turn that a packet is passed in, and the call
+abbrev turn : tie.After-is-kept Inv-loop μ-loop → tie.At-loop Inv-loop μ-loop
+turn p =
+    let here = p .before .before in
+    here .before .before
+
+abbrev start : tie.At-loop Inv-loop μ-loop → tie.Start Inv-loop μ-loop
+start loop = loop .before .before .before
+
 -- what is known once a packet is passed
 known : (p : tie.After-is-kept Inv-loop μ-loop) →
-    let loop = p .before .before .before .before in
-    Stepped (loop .before .before .before .args .tape .now) (loop .loop .at) (p .before .advanced .result) (p .is-kept .result)
+    let loop = turn p in
+    Stepped (start loop .args .tape .now) (loop .loop .at) (p .before .advanced .result) (p .is-kept .result)
 known p =
     let called = p .before in
     let here = called .before in
     let asked = here .before in
     let loop = asked .before in
-    stepped (loop .before .before .before .args .tape .now) (loop .loop .at) (asked .has-packet .ensures) (here .if1 .taken) (called .advanced .ensures) (p .is-kept .ensures)
+    stepped (start loop .args .tape .now) (loop .loop .at) (asked .has-packet .ensures) (here .if1 .taken) (called .advanced .ensures) (p .is-kept .ensures)
 
 loop-holds : tie.Need-loop-holds Inv-loop μ-loop
 loop-holds c =
@@ -43,36 +52,36 @@ is-kept-requires c κs = search needs
 agreed-requires : tie.Need-agreed-requires Inv-loop μ-loop
 agreed-requires c κs =
     let p = c .before in
-    let loop = p .before .before .before .before in
-    let s = loop .before .before .before in
+    let loop = turn p in
+    let s = start loop in
     agrees-less (s .args .start) (s .args .tape .now) (loop .loop .at) (known p) (s .args .marks .now) (loop .loop .inv) (c .if2 .taken)
 
 loop-less : tie.Need-loop-less Inv-loop μ-loop
 loop-less c =
     let p = c .before .before in
-    let loop = p .before .before .before .before in
-    let s = loop .before .before .before in
+    let loop = turn p in
+    let s = start loop in
     goes-down (s .args .start) (s .args .tape .now) (loop .loop .at) (known p) _ (loop .loop .inv .1)
 
 loop-again : tie.Need-loop-again Inv-loop μ-loop
 loop-again c =
     let p = c .before .before in
-    let loop = p .before .before .before .before in
-    let s = loop .before .before .before in
+    let loop = turn p in
+    let s = start loop in
     compares-kept (s .args .start) (s .args .tape .now) (loop .loop .at) (known p) (s .args .marks .now) (loop .loop .inv) (c .before .if2 .taken) (c .agreed .ensures)
 
 loop-less-2 : tie.Need-loop-less-2 Inv-loop μ-loop
 loop-less-2 c =
     let p = c .before in
-    let loop = p .before .before .before .before in
-    let s = loop .before .before .before in
+    let loop = turn p in
+    let s = start loop in
     goes-down (s .args .start) (s .args .tape .now) (loop .loop .at) (known p) _ (loop .loop .inv .1)
 
 loop-again-2 : tie.Need-loop-again-2 Inv-loop μ-loop
 loop-again-2 c =
     let p = c .before in
-    let loop = p .before .before .before .before in
-    let s = loop .before .before .before in
+    let loop = turn p in
+    let s = start loop in
     compares-not (s .args .start) (s .args .tape .now) (loop .loop .at) (known p) (s .args .marks .now) (loop .loop .inv) (c .if2 .left)
 
 read-requires : tie.Need-read-requires Inv-loop μ-loop
@@ -84,7 +93,7 @@ returns c =
     let out = read .before in
     let asked = out .before in
     let loop = asked .before in
-    let s = loop .before .before .before in
+    let s = start loop in
     compares-last (s .args .start) (s .args .tape .now) (s .args .marks .now) (loop .loop .at) (loop .loop .inv) (asked .has-packet .ensures) (out .if1 .left) (read .read .ensures)
 
 pub compared-spec : {M : Type 1} → statement M

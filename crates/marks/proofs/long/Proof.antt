@@ -50,8 +50,10 @@ add-result c = search needs
 
 returns : tie.Need-returns
 returns c =
-    let first = c .before .before .before .before .before in
-    let a = first .before .before .before .before .before .before in
+    let last = c .before .before in
+    let first = last .before .before .before in
+    let fourth = first .before .before .before in
+    let a = fourth .before .before .before in
     long-is (a .args .octets .now) (a .pre) (first .word .ensures) (c .word2 .ensures)
 
 pub long-spec : {M : Type 1} → statement M

@@ -48,8 +48,10 @@ copy-at-requires-2 c κs = search needs
 returns : tie.Need-returns
 returns c =
     let last = c .before in
-    let placed = last .before .before .before .before in
-    let first = placed .before .before .before .before in
+    let lent = last .before .before in
+    let placed = lent .before .before in
+    let lent′ = placed .before .before in
+    let first = lent′ .before .before in
     let front = first .before .before .before in
     mark-laid _ (front .before .before .long-octets .ensures) (front .before .long-octets2 .ensures) (front .front-octets .ensures) (first .copy .ensures) (placed .copy-at .ensures) (last .copy-at2 .ensures)
 

@@ -15,7 +15,9 @@ add-open : tie.Need-add-open
 add-open c = search needs
 
 slice-aggregate-open : tie.Need-slice-aggregate-open
-slice-aggregate-open c = let a = c .before .before in count 6 (a .args .packet .now) (within shortestPacket longestPacket (length (a .args .packet .now)) (a .pre .1) .0)
+slice-aggregate-open c =
+    let a = c .before .before in
+    count 6 (a .args .packet .now) (within shortestPacket longestPacket (length (a .args .packet .now)) (a .pre .1) .0)
 
 slice-aggregate-open-2 : tie.Need-slice-aggregate-open-2
 slice-aggregate-open-2 c = search needs
@@ -24,7 +26,11 @@ open-requires : tie.Need-open-requires
 open-requires c κs = search needs
 
 returns : tie.Need-returns
-returns c = let a = c .before .before .before .before .before in cut-opened longestPlain farthest (a .args .link) (a .args .packet .now) (a .pre .0) (a .pre .1) (c .before .«open» .ensures .0)
+returns c =
+    let opened = c .before in
+    let lent = opened .before .before in
+    let a = lent .before .before in
+    cut-opened longestPlain farthest (a .args .link) (a .args .packet .now) (a .pre .0) (a .pre .1) (opened .«open» .ensures .0)
 
 pub outcome-of-spec : {M : Type 1} → statement M
 outcome-of-spec =

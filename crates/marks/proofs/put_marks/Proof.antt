@@ -16,16 +16,25 @@ Inv-loop tape out₀ at₀ out at = Puts (at₀ .link) tape out₀ at out
 abbrev μ-loop : tie.MeasureT-loop
 μ-loop tape out₀ at₀ out at = suc (length tape) - at .offset
 
+-- the loop's turn that a packet is passed in, and the call
+abbrev turn : tie.After-is-kept Inv-loop μ-loop → tie.At-loop Inv-loop μ-loop
+turn p =
+    let here = p .before .before in
+    here .before .before
+
+abbrev start : tie.At-loop Inv-loop μ-loop → tie.Start Inv-loop μ-loop
+start loop = loop .before .before .before
+
 -- what is known once a packet is passed
 known : (p : tie.After-is-kept Inv-loop μ-loop) →
-    let loop = p .before .before .before .before in
-    Stepped (loop .before .before .before .args .tape .now) (loop .loop .at) (p .before .advanced .result) (p .is-kept .result)
+    let loop = turn p in
+    Stepped (start loop .args .tape .now) (loop .loop .at) (p .before .advanced .result) (p .is-kept .result)
 known p =
     let called = p .before in
     let here = called .before in
     let asked = here .before in
     let loop = asked .before in
-    stepped (loop .before .before .before .args .tape .now) (loop .loop .at) (asked .has-packet .ensures) (here .if1 .taken) (called .advanced .ensures) (p .is-kept .ensures)
+    stepped (start loop .args .tape .now) (loop .loop .at) (asked .has-packet .ensures) (here .if1 .taken) (called .advanced .ensures) (p .is-kept .ensures)
 
 -- the record that it begins with has the sizes of the code's struct
 whole-start : (s : tie.Start Inv-loop μ-loop) → Whole (s .args .start)
@@ -51,43 +60,47 @@ is-kept-requires c κs = search needs
 put-mark-requires : tie.Need-put-mark-requires Inv-loop μ-loop
 put-mark-requires c κs =
     let p = c .before .before in
-    let loop = p .before .before .before .before in
-    let s = loop .before .before .before in
+    let loop = turn p in
+    let s = start loop in
     puts-room (s .args .start) (s .args .tape .now) (loop .loop .at) (known p) (s .args .out .now) (s .pre .1) (whole-start s) (loop .loop .inv) (c .before .if2 .taken)
 
 loop-less : tie.Need-loop-less Inv-loop μ-loop
 loop-less c =
-    let p = c .before .before .before .before .before in
-    let loop = p .before .before .before .before in
-    let s = loop .before .before .before in
+    let put = c .before .before in
+    let kept = put .before .before in
+    let p = kept .before in
+    let loop = turn p in
+    let s = start loop in
     goes-down (s .args .start) (s .args .tape .now) (loop .loop .at) (known p) _ (loop .loop .inv .1)
 
 loop-again : tie.Need-loop-again Inv-loop μ-loop
 loop-again c =
-    let p = c .before .before .before .before .before in
-    let loop = p .before .before .before .before in
-    let s = loop .before .before .before in
-    puts-kept (s .args .start) (s .args .tape .now) (loop .loop .at) (known p) (s .args .out .now) (loop .loop .inv) (c .before .before .before .before .if2 .taken) (c .before .before .put-mark .ensures)
+    let put = c .before .before in
+    let kept = put .before .before in
+    let p = kept .before in
+    let loop = turn p in
+    let s = start loop in
+    puts-kept (s .args .start) (s .args .tape .now) (loop .loop .at) (known p) (s .args .out .now) (loop .loop .inv) (kept .if2 .taken) (put .put-mark .ensures)
 
 loop-less-2 : tie.Need-loop-less-2 Inv-loop μ-loop
 loop-less-2 c =
     let p = c .before in
-    let loop = p .before .before .before .before in
-    let s = loop .before .before .before in
+    let loop = turn p in
+    let s = start loop in
     goes-down (s .args .start) (s .args .tape .now) (loop .loop .at) (known p) _ (loop .loop .inv .1)
 
 loop-again-2 : tie.Need-loop-again-2 Inv-loop μ-loop
 loop-again-2 c =
     let p = c .before in
-    let loop = p .before .before .before .before in
-    let s = loop .before .before .before in
+    let loop = turn p in
+    let s = start loop in
     puts-not (s .args .start) (s .args .tape .now) (loop .loop .at) (known p) (s .args .out .now) (loop .loop .inv) (c .if2 .left)
 
 same-length : tie.Need-same-length Inv-loop μ-loop
 same-length c =
     let asked = c .before in
     let loop = asked .before in
-    let s = loop .before .before .before in
+    let s = start loop in
     written-size (marksOctets (marksOf mostGroups longestPlain farthest (s .args .start) (s .args .tape .now))) (s .args .out .now) (s .pre .1)
     (puts-last (s .args .start) (s .args .tape .now) (s .args .out .now) (loop .loop .at) (loop .loop .inv) (asked .has-packet .ensures) (c .if1 .left))
 
@@ -95,7 +108,7 @@ returns : tie.Need-returns Inv-loop μ-loop
 returns c =
     let asked = c .before in
     let loop = asked .before in
-    let s = loop .before .before .before in
+    let s = start loop in
     puts-last (s .args .start) (s .args .tape .now) (s .args .out .now) (loop .loop .at) (loop .loop .inv) (asked .has-packet .ensures) (c .if1 .left)
 
 pub put-marks-spec : {M : Type 1} → statement M

@@ -12,6 +12,10 @@ use Rattle.marks.proofs.no_mark.Reads as no-mark-reads
 use Rattle.mppe.proofs.well_formed.Reads as well-formed-reads
 use Rattle.mppe_record.proofs.read_stateless.Reads as read-stateless-reads
 
+-- the link's octets read
+abbrev place : tie.After-struct-known → tie.After-read-stateless
+place p = p .before .before
+
 no-mark-requires : tie.Need-no-mark-requires
 no-mark-requires c κs = search needs
 
@@ -35,7 +39,7 @@ no-mark-requires-2 c κs = search needs
 
 returns-2 : tie.Need-returns-2
 returns-2 c =
-    let held = c .before .before .before .before in
+    let held = place (c .before .before) in
     mark-weak _ (held .before .before .if1 .left) (held .read-stateless .ensures) (c .before .if2 .taken) (c .no-mark2 .ensures)
 
 well-formed-requires : tie.Need-well-formed-requires
@@ -47,18 +51,20 @@ no-mark-requires-3 c κs = search needs
 returns-3 : tie.Need-returns-3
 returns-3 c =
     let tested = c .before .before in
-    let held = tested .before .before .before .before in
+    let held = place (tested .before .before) in
     mark-ill _ (held .before .before .if1 .left) (held .read-stateless .ensures) (tested .before .if2 .left) (tested .well-formed .ensures) (c .before .if3 .taken) (c .no-mark3 .ensures)
 
 slice-aggregate-long : tie.Need-slice-aggregate-long
 slice-aggregate-long c =
-    let held = c .before .before .before .before .before .before in
+    let tested = c .before .before in
+    let held = place (tested .before .before) in
     let first = held .before .before in
     count 8 (first .before .before .args .octets .now) (omega (arith, first .if1 .left))
 
 long-requires : tie.Need-long-requires
 long-requires c κs =
-    let held = c .before .before .before .before .before .before in
+    let tested = c .before .before in
+    let held = place (tested .before .before) in
     let first = held .before .before in
     sym (count 8 (first .before .before .args .octets .now) (omega (arith, first .if1 .left)))
 
@@ -79,7 +85,7 @@ returns-4 c =
     let one = c .before .before in
     let fine = one .before .before in
     let tested = fine .before in
-    let held = tested .before .before .before .before in
+    let held = place (tested .before .before) in
     mark-held _ (held .before .before .if1 .left) (held .read-stateless .ensures) (tested .before .if2 .left) (tested .well-formed .ensures) (fine .if3 .left) (one .long .ensures) (c .long2 .ensures)
 
 pub read-spec : {M : Type 1} → statement M

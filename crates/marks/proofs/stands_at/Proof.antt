@@ -28,7 +28,8 @@ same-requires c κs = search needs
 
 returns-2 : tie.Need-returns-2
 returns-2 c =
-    let a = c .before .before .before .before .before .args in
+    let whole = c .before .before in
+    let a = whole .before .before .before .args in
     stands-is (a .octets .now) (a .marks .now) (a .at) (c .same .ensures)
 
 pub stands-at-spec : {M : Type 1} → statement M

@@ -7,10 +7,15 @@ use Rattle.marks.proofs.write.Statement.{statement}
 use Rattle.marks.proofs.write.Tie as tie
 
 -- the record that it begins with: a walk may, and it has the sizes of the code's struct
-begun : (e : tie.Else1) → Begins (e .before .before .before .before .args .start)
+abbrev start : tie.Else1 → tie.Start
+start e =
+    let asked = e .before in
+    asked .before .before .before
+
+begun : (e : tie.Else1) → Begins (start e .args .start)
 begun e = begins-told _ (e .before .begins .ensures) (e .if1 .left)
 
-whole : (e : tie.Else1) → Whole (e .before .before .before .before .args .start)
+whole : (e : tie.Else1) → Whole (start e .args .start)
 whole e = (begun e .0, begun e .1, (search needs, search needs, search needs, (search needs, search needs, search needs)))
 
 begins-requires : tie.Need-begins-requires
@@ -38,7 +43,7 @@ returns-2 : tie.Need-returns-2
 returns-2 c =
     let walked = c .before .before .before in
     let e = walked .before .before in
-    let s = e .before .before .before .before .args in
+    let s = start e .args in
     write-faulty (s .start) (s .tape .now) (s .out .now) (s .out .now) (begun e) (walked .compared .ensures .0) (c .before .if2 .taken) (c .refused2 .ensures)
 
 mul-length : tie.Need-mul-length
@@ -55,7 +60,7 @@ returns-3 c =
     let good = c .before .before .before in
     let walked = good .before .before in
     let e = walked .before .before in
-    let s = e .before .before .before .before .args in
+    let s = start e .args in
     write-short (s .start) (s .tape .now) (s .out .now) (s .out .now) (begun e) (walked .compared .ensures .0) (whole e) (good .if2 .left) (c .before .if3 .taken) (c .refused3 .ensures)
 
 put-marks-requires : tie.Need-put-marks-requires
@@ -64,7 +69,7 @@ put-marks-requires c κs =
     let good = enough .before .before in
     let walked = good .before .before in
     let e = walked .before .before in
-    let s = e .before .before .before .before .args in
+    let s = start e .args in
     (begun e, omega (arith, enough .if3 .left, list-length (s .start) (s .tape .now) (s .out .now) (s .out .now) (begun e) (walked .compared .ensures .0) (whole e) (good .if2 .left)))
 
 same-length-3 : tie.Need-same-length-3
@@ -77,7 +82,7 @@ returns-4 c =
     let good = enough .before .before in
     let walked = good .before .before in
     let e = walked .before .before in
-    let s = e .before .before .before .before .args in
+    let s = start e .args in
     write-done (s .start) (s .tape .now) (s .out .now) (s .out .now) (begun e) (walked .compared .ensures .0) (whole e) (good .if2 .left) (enough .if3 .left) (put .put-marks .ensures)
 
 pub write-spec : {M : Type 1} → statement M
