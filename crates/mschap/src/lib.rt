@@ -222,10 +222,10 @@ pub fn check_authenticator(
     if string.answer != answer::DONE {
         return refused_check(string.answer);
     }
-    let own = string.octets;
+    let expected = string.octets;
     Checked {
         answer: answer::DONE,
-        yes: octets::same(&own, received),
+        yes: octets::same(&expected, received),
     }
 }
 
