@@ -22,7 +22,8 @@
  * Time: in stateless mode `udukemb_open`, `udukemb_begin` and `udukemb_tape_replay` make as many key changes as the
  * packet's count is ahead of the last one, 1 to 2,048, before it can be seen whether the protocol number inside is
  * right. So a packet at the farthest distance costs a millisecond or two even if it is then refused with 4, and whoever
- * can put octets on the line can make every packet cost that much. In stateful mode there are at most 8. How long a
+ * can put octets on the line can make every packet cost that much. In stateful mode there are at most 8.
+ * `udukemb_marks_check` makes these key changes for every packet of a tape, and `udukemb_marks_write` twice. How long a
  * call takes is not proved, nor that its time keeps a secret.
  *
  * Secrets: what a call works with remains on the stack below its caller's frame, the password's hash, start keys and

@@ -1,7 +1,7 @@
 // Marks beside a tape: where a walk over the tape of a stateless link may be taken up again (02, M-111).
 ghost use mathlib.Core.Path.{_≡_};
 ghost use mathlib.Core.Bool.{true, false, not, _&&_};
-ghost use Prim.Native.Nat.{suc, _+_, _*_, _-_, _/_, _≤_, _<_};
+ghost use Prim.Native.Nat.{suc, _+_, _*_, _-_, _/_, _^_, _≤_, _<_};
 ghost use lib.Dec.{ltb};
 ghost use lib.ListN.{length, take, drop, replicate};
 ghost use Rattle.answer.specs.Answer.{outside, onDone};
@@ -28,6 +28,8 @@ pub const MARK_LENGTH: usize = 51;
 const OFFSET_AT: usize = 8;
 
 const LINK_AT: usize = 16;
+// The offset of a tape's first packet.
+const TAPE_START: usize = 1;
 // A mark is kept behind each packet whose number among those opened is a multiple of this.
 pub const EVERY: u64 = 256;
 
@@ -178,7 +180,7 @@ fn compared(start: Link, tape: &[u8], marks: &[u8]) -> Found
 {
     let mut at = Mark {
         opened: 0,
-        offset: 1,
+        offset: TAPE_START,
         link: start,
     };
     let mut agreeing = 0;
@@ -204,7 +206,7 @@ fn put_marks(start: Link, tape: &[u8], out: &mut [u8])
 {
     let mut at = Mark {
         opened: 0,
-        offset: 1,
+        offset: TAPE_START,
         link: start,
     };
     while has_packet(tape, at.offset) {
@@ -252,7 +254,7 @@ fn outcome_of(link: Link, packet: &[u8]) -> Outcome
 
 // One more where a packet was opened.
 fn counted(code: u8, opened: u64) -> u64
-    requires { ⌜ suc opened < 18446744073709551616 ⌝ }
+    requires { ⌜ suc opened < 2 ^ 64 ⌝ }
     ensures { λ r. ⌜ r ≡ onDone code (suc opened) opened ⌝ }
 {
     if code == answer::DONE {
@@ -286,7 +288,7 @@ fn agreed(mark: Mark, marks: &[u8], agreeing: usize) -> usize
 
 // Whether a mark's octets stand at a place of a list.
 fn stands_at(octets: &[u8], at: usize, marks: &[u8]) -> bool
-    requires { ⌜ (length (now octets) ≡ markLength) × (at + markLength < 18446744073709551616) ⌝ }
+    requires { ⌜ (length (now octets) ≡ markLength) × (at + markLength < 2 ^ 64) ⌝ }
     ensures { λ r. ⌜ r ≡ equal (now (octets .entry)) (take markLength (drop at (now (marks .entry)))) ⌝ }
 {
     let end = at + MARK_LENGTH;
