@@ -20,7 +20,7 @@ use Rattle.mppe_pieces.specs.declared.Walk.{Walk}
 use Rattle.mppe_pieces.specs.declared.Step.{Step}
 use Rattle.mppe_pieces.specs.Walk.{Fed, begin_step, feed_result, end_step}
 use Rattle.mppe_pieces.specs.Pieces.{joined, feed_all, walked}
-use Rattle.mppe_pieces.specs.Laws.{pieces, feed_more, joined_more}
+use Rattle.mppe_pieces.proofs.Laws.{pieces, feed_more, joined_more}
 use Rattle.bench.specs.Copied.{copied, strength_of, link_at}
 use Rattle.bench.specs.Cut.{Cut}
 

@@ -2,5 +2,3 @@
 pub mod Option
 pub mod Answers
 pub mod Reset
--- Laws.
-pub mod Laws

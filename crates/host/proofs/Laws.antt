@@ -1,6 +1,6 @@
 -- The ways out of the calls.
 use mathlib.Core.Path.{◌≡◌, refl, sym, ap, ◌∙◌}
-use mathlib.Core.Bool.{Bool, true, false, not}
+use mathlib.Core.Bool.{Bool, true, false}
 use mathlib.Core.List.{List, [], ◌∷◌, append-nil}
 use Prim.Native.Nat.{ℕ, zero, suc, ◌-◌, ◌≤◌, ◌<◌}
 use native.Mathlib.Omega.{arith}
@@ -15,7 +15,7 @@ use Rattle.mschap.specs.declared.Hash.{Hash}
 use Rattle.mschap.specs.Lengths.{response_length}
 use Rattle.mschap.specs.Mschap.{password_hash, hash_hash}
 use Rattle.mschap.specs.Answers.{password_rows, hash_answer, password_hash_answer, hash_hash_answer}
-use Rattle.mschap.specs.Laws.{password_hash_length, hash_hash_length, hash_hash_done}
+use Rattle.mschap.proofs.Laws.{password_hash_length, hash_hash_length, hash_hash_done}
 use Rattle.mppe_keys.specs.declared.Strength.{Strength}
 use Rattle.mppe_keys.specs.declared.Mode.{Mode}
 use Rattle.mppe_keys.specs.declared.Role.{Role}
@@ -23,7 +23,7 @@ use Rattle.mppe_keys.specs.declared.Direction.{Direction}
 use Rattle.mppe_keys.specs.declared.Key.{Key}
 use Rattle.mppe_keys.specs.Keys.{bits_of, key_length, by_mode, mode_if, start_key, placed}
 use Rattle.mppe_keys.specs.Answers.{key_answer, master_key_answer, start_key_answer}
-use Rattle.mppe_keys.specs.Laws.{key_most, master_key_length, start_key_length}
+use Rattle.mppe_keys.proofs.Laws.{key_most, master_key_length, start_key_length}
 use Rattle.ccp.specs.declared.Strengths.{Strengths}
 use Rattle.ccp.specs.declared.Choice.{Choice}
 use Rattle.ccp.specs.declared.Reply.{Reply as CcpReply}
@@ -36,11 +36,11 @@ use Rattle.mppe.specs.declared.Outcome.{Outcome}
 use Rattle.mppe.specs.Link.{Result, longest_plain, farthest, new_link}
 use Rattle.mppe_record.specs.declared.RecordRead.{RecordRead}
 use Rattle.mppe_record.specs.Record.{strength_of, no_strength, record_length, record_octets, record_read}
-use Rattle.mppe_record.specs.Laws.{read_length}
+use Rattle.mppe_record.proofs.Laws.{read_length}
 use Rattle.mppe_pieces.specs.declared.Walk.{Walk}
 use Rattle.mppe_pieces.specs.declared.Step.{Step}
 use Rattle.mppe_pieces.specs.Walk.{Fed, begin_step, feed_result}
-use Rattle.mppe_pieces.specs.Laws.{calls}
+use Rattle.mppe_pieces.proofs.Laws.{calls}
 use Rattle.mppe_walk.specs.declared.WalkRead.{WalkRead}
 use Rattle.mppe_walk.specs.Walk.{walk_length, walk_octets, rest_put, front_read, walk_read}
 use Rattle.mppe_walk.specs.Laws.{read_length as read-walk-length, rest_written}

@@ -10,18 +10,18 @@ use Rattle.mppe_keys.specs.declared.Strength.{Strength}
 use Rattle.mppe_keys.specs.Keys.{by_mode, mode_if}
 use Rattle.mppe.specs.declared.Link.{Link}
 use Rattle.mppe.specs.Link.{Result, longest_plain, farthest, new_link, new_link_code, with_box, refusal, seal_code, seal_result, open_result, reset_code, reset_outcome}
-use Rattle.mppe.specs.Laws.{report_bound, open_answers, open_other}
+use Rattle.mppe.proofs.Laws.{report_bound, open_answers, open_other}
 use Rattle.mppe_record.specs.Record.{strength_of, no_strength, record_length, record_octets, record_read}
-use Rattle.mppe_record.specs.Laws.{Sized, record_octets_length, reads_back, writes_back, new_sized}
+use Rattle.mppe_record.proofs.Laws.{Sized, record_octets_length, reads_back, writes_back, new_sized}
 use Rattle.mppe_pieces.specs.declared.Walk.{Walk}
 use Rattle.mppe_pieces.specs.declared.Step.{Step}
 use Rattle.mppe_pieces.specs.Walk.{Fed, over, on_with, begin_step, closes, feed_result, end_step}
-use Rattle.mppe_pieces.specs.Laws.{calls}
+use Rattle.mppe_pieces.proofs.Laws.{calls}
 use Rattle.mppe_walk.specs.Walk.{walk_length, walk_octets, front_read, walk_read}
 use Rattle.mppe_walk.specs.Laws.{in_front_octets, front_kept, writes_back as walk-back, read_refused, over_octets}
 use Rattle.tape.specs.Tape.{most_groups}
 use Rattle.tape.specs.Replay.{held}
-use Rattle.tape.specs.ReplayLaws.{of_step}
+use Rattle.tape.proofs.ReplayLaws.{of_step}
 use Rattle.host.specs.Host.{Given, Linked, given, new_link_given, linked_by, unchanged, linked, seal_linked, open_linked, reset_linked, walked_by, stepped, walked, feed_walked, end_walked, closed_octets, begin_walked, step_with, replay_linked}
 
 -- a call on the octets of a record is the call on that record

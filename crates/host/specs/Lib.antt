@@ -2,6 +2,5 @@
 pub mod Host
 -- demand 3 and M-105 for a program in C: the claims
 pub mod Run
--- what follows from both: calls on a record's octets, refused calls, and the claims' proofs
+-- what follows from the first: calls on a record's octets, and refused calls
 pub mod Laws
-pub mod InC

@@ -9,7 +9,7 @@ use Rattle.mppe.specs.Link.{longest_plain, farthest, well_formed, Result}
 use Rattle.mppe_runs.specs.Run.{most_lost, SealCall, OpenCall, octets_lent, room_lent, Packet, first, beginning, packets, said, Meets, due}
 use Rattle.mppe_runs.specs.AnyOrderRun.{most_ahead, most_behind, MeetsAny, due_any}
 use Rattle.mppe_record.specs.Record.{strength_of, record_length, record_octets}
-use Rattle.mppe_record.specs.Laws.{Sized}
+use Rattle.mppe_record.proofs.Laws.{Sized}
 use Rattle.tape.specs.Tape.{longest_packet, most_groups, record_size, tape_of, Writable}
 use Rattle.host.specs.Host.{Linked, new_link_given, linked_by, unchanged, seal_linked, open_linked, replay_linked, replay_offset}
 

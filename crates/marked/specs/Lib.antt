@@ -1,2 +1,2 @@
--- the marked cases and their one claim: to be read against 01; no contract cites them
+-- the marked cases, to be read against 01; no contract cites them
 pub mod Marked

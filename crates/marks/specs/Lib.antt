@@ -3,6 +3,3 @@ pub mod Marks
 pub mod Resume
 -- What only private functions promise.
 pub mod Inner
--- Laws; `check-yes`, `write-yes` and `opens-on` are the claims, and `list-short` says how much room a list needs at most.
-pub mod Laws
-pub mod ResumeLaws

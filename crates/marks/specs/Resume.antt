@@ -5,7 +5,7 @@ use Rattle.answer.specs.Answer.{done}
 use Rattle.octets.specs.Octets.{Octets}
 use Rattle.mppe.specs.declared.Link.{Link}
 use Rattle.mppe.specs.Link.{front}
-use Rattle.mppe_record.specs.Laws.{Sized}
+use Rattle.mppe_record.proofs.Laws.{Sized}
 use Rattle.tape.specs.Tape.{tape_of, read_from, contents, holding}
 use Rattle.tape.specs.Replay.{Step, held, at_end, replay}
 use Rattle.marks.specs.declared.Mark.{Mark}

@@ -1,5 +1,5 @@
 -- A block's rounds together, and the ways out of the call.
-use mathlib.Core.Path.{refl, ◌≡◌, sym, ap, ◌∙◌}
+use mathlib.Core.Path.{◌≡◌, sym, ap, ◌∙◌}
 use mathlib.Core.Bool.{Bool}
 use mathlib.Core.List.{List}
 use Prim.Native.Nat.{ℕ, ◌*◌, ◌/◌, ◌%◌, ◌^◌, ◌≤◌, ◌<◌}
@@ -7,7 +7,7 @@ use native.Mathlib.Nat.{mod-lt}
 use native.Mathlib.Omega.{arith}
 use lib.Dec.{T, ltb, eqb, eqb→eq}
 use lib.ListN.{length, get_or, replicate}
-use borrow.Author.Tests.{lt-ltb, le-ltb}
+use borrow.Author.Tests.{lt-ltb}
 use Rattle.octets.specs.Octets.{word_le, longest_text}
 use Rattle.octets.specs.Words.{◌⊞◌, rotl}
 use Rattle.octets.specs.declared.Order.TheVariants.{LowestFirst}

@@ -1,547 +1,530 @@
--- The ways out of the link's functions, over plain lists and numbers.
-use mathlib.Core.Path.{◌≡◌, refl, sym, ap, ◌∙◌}
-use mathlib.Core.Bool.{Bool, true, false, not, ◌&&◌, ◌||◌, and-true, and-false, true≢false, false≢true}
-use mathlib.Core.List.{List, [], ◌∷◌, ◌++◌, append_assoc, append-nil}
-use Prim.Native.Nat.{ℕ, zero, suc, ◌+◌, ◌*◌, ◌-◌, ◌/◌, ◌%◌, ◌^◌, ◌<◌, ◌≤◌}
-use native.Mathlib.Nat.{suc-ne-zero}
-use native.Mathlib.Numerals.{add-one}
-use native.Mathlib.Omega.{arith}
-use lib.Dec.{eqb, ltb}
-use lib.ListN.{length, take, drop, get_or, replicate, drop_of_length-le, length-append, length-drop}
-use lib.Seq.{length-take-le, drop-cons, drop-drop, drop-length, take_all, take_at, drop_at}
-use borrow.Author.Tests.{lt-ltb, le-ltb, eq-eqb, ne_eqb, ltb-true, ltb-false, not-true, not-false}
-use borrow.Rule.Slice.PartMut.{put_mid}
-use Rattle.answer.specs.Answer.{done, shape, room, size, protocol, not_record, waiting, pick, outside, wrong, first_of, on_done, one_code}
-use Rattle.answer.specs.Laws.{both, clear, never, rows_pass, rows_stop, not_done, outside_low, within, right, right_length}
-use Rattle.octets.specs.Octets.{written}
+-- What holds of records, packets and counts, once over the strengths.
+use Rattle.std.specs.Prelude.{◌≡◌, Bool, false, not, ◌&&◌, ◌≢◌, List, [], ◌∷◌, ◌++◌, ℕ, zero, suc, ◌+◌, ◌-◌, ◌/◌, ◌%◌, ◌<◌, ◌≤◌, eqb, ltb, take, drop, get_or, replicate}
+use Rattle.std.proofs.Math.Path.{refl}
+use Rattle.std.proofs.Common.{sym, ap, ◌∙◌, add-zero, add-suc, suc-ne-zero, arith, length-take, length-drop, take-append-drop, length-take-le}
+use Rattle.std.proofs.Math.Bool.{true}
+use Rattle.std.proofs.lemmas.Bool.{false≢true}
+use Rattle.std.proofs.Math.ListN.{length}
+use Rattle.std.proofs.Math.Seq.{take-append_seam, drop-append_seam}
+use borrow.Author.Tests.{lt-ltb, le-ltb, eq-eqb, ne_eqb, ltb-true, ltb-false, eqb-true, eqb-false, not-true}
+use Rattle.answer.specs.Answer.{done, flags, repeat, not_record, late, waiting, pick, outside, first_of, on_done}
+use Rattle.answer.specs.Laws.{both, clear, never, not_done, rows_pass, rows_passed, within, outside_none}
 use Rattle.rc4.specs.declared.Rc4.{Rc4}
-use Rattle.rc4.specs.declared.Ran.{Ran}
-use Rattle.rc4.specs.Cipher.{key_schedule, run, after, permutation, unkeyed, is_unkeyed}
-use Rattle.rc4.specs.Answers.{run_answer, run_out, apply_out, keyed_if, within_answer, within_out}
-use Rattle.rc4.specs.Laws.{run_done, apply_done, within_fits}
-use Rattle.rc4.specs.Permutation.{unkeyed_permutation}
+use Rattle.rc4.specs.Cipher.{permutation, unkeyed, is_unkeyed, key_schedule, run, after}
+use Rattle.rc4.proofs.Permutation.{whole_permutation, permutation_whole, after_whole, keyed_whole, unkeyed_found, unkeyed_permutation}
+use Rattle.octets.specs.Octets.{written}
 use Rattle.mppe_keys.specs.declared.Strength.{Strength}
 use Rattle.mppe_keys.specs.declared.Mode.{Mode}
 use Rattle.mppe_keys.specs.declared.Mode.TheVariants.{Stateless, Stateful}
-use Rattle.mppe_keys.specs.declared.Key.{Key}
-use Rattle.mppe_keys.specs.Keys.{key_length, by_mode, head_of, begins, changes}
-use Rattle.mppe_keys.specs.Answers.{key_answer, initial_key_answer, placed_changes}
-use Rattle.mppe_keys.specs.Laws.{key_placed, key_least, key_most, changes_length}
-use Rattle.ccp.specs.declared.reset.Reset.{Reset}
-use Rattle.ccp.specs.Reset.{reset_rows, reset_answer}
-use Rattle.ccp.specs.Laws.{reset_done, reset_shape}
+use Rattle.mppe_keys.specs.Keys.{key_length, by_mode, head_of, begins, key_change, changes, placed}
+use Rattle.mppe_keys.proofs.Laws.{key_least, key_most, head_most, key_change_length, key_change_head, changes_length}
 use Rattle.mppe.specs.declared.Link.{Link}
-use Rattle.mppe.specs.declared.Outcome.{Outcome}
-use Rattle.mppe.specs.Link.{box_fits, opens_by, changes_over, with_box, kept_box, no_link, packet_on, shortest_plain, longest_plain, front, counts, new_count, zeros, well_formed, start_key_in, session_key_in, renewed, new_link, new_link_code, off_protocol, bit_a, bit_d, header, header_in, data_in, count_of, Result, refusal}
-use Rattle.mppe.specs.Link.{judged, plain_rows, next_count, next_changes, next_key, keys_afresh, next_box, seal_code, seal_result, away_for, changes_for, key_for, box_for, state_for, plain_for, waited, lacks, link_after, front_rows, header_rows, data_rows, open_code, open_result, reset_code, reset_outcome}
-use Rattle.mppe.specs.Inner.{front_code, room_rows, header_code, cipher_in, carried_code, deciphered, deciphered_out, settled_on, waited_on, data_result}
-use Rattle.mppe.specs.Laws.{key_back, endings_are, well_box, fits_unmarked}
+use Rattle.mppe.specs.Link.{shortest_plain, front, counts, new_count, zeros, box_fits, well_formed, start_key_in, session_key_in, link_of, with_box, renewed, kept_box, key_for, box_for, state_for, plain_for, link_after, bit_a, bit_d, header, packet_on, header_in, count_of, lacks, data_in, distance, endings, changes_over, away_for, changes_for, front_rows, data_rows, finished, refusal, next_count, next_changes, next_key, keys_afresh, next_box, seal_code, seal_result, waited, open_rows, open_code, opened_by, open_result}
 
--- the counts that end in 0xFF, as code counts them
-pub stateless_changes : (mode : Mode) (last d : ℕ) → mode ≡ Stateless → d ≡ changes_over mode last d
-unfolding changes_over
-stateless_changes mode last d e = rw e
-
-pub stateful_changes : (mode : Mode) (last d : ℕ) → mode ≡ Stateful → (last + d + 1) / 256 - (last + 1) / 256 ≡ changes_over mode last d
-unfolding changes_over
-stateful_changes mode last d e = rw e (sym (endings_are last d))
-
--- what a mode decides
-pub by_stateless : {A : Type 0} {r : A} (mode : Mode) (a b : A) → mode ≡ Stateless → r ≡ a → r ≡ by_mode mode a b
-by_stateless mode a b e er = rw e er
-
-pub by_stateful : {A : Type 0} {r : A} (mode : Mode) (a b : A) → mode ≡ Stateful → r ≡ b → r ≡ by_mode mode a b
-by_stateful mode a b e er = rw e er
-
--- whether there is a box to open with, test by test
-pub opens_fresh : (t lacks_a : Bool) (away : ℕ) (mark : Bool) → t ≡ lacks_a → not t ≡ true → true ≡ opens_by lacks_a away mark
-opens_fresh t lacks_a away mark e h = rw (← e, not-true t h)
-
-pub opens_far : (t lacks_a : Bool) (away : ℕ) (mark : Bool) → t ≡ lacks_a → not t ≡ false → (away ≡ 1 → ⊥) → false ≡ opens_by lacks_a away mark
-opens_far t lacks_a away mark e h far = rw (← e, not-false t h, ne_eqb away 1 far)
-
-pub opens_next : (t lacks_a : Bool) (away : ℕ) (mark : Bool) → t ≡ lacks_a → not t ≡ false → away ≡ 1 → not mark ≡ opens_by lacks_a away mark
-opens_next t lacks_a away mark e h near = rw (← e, not-false t h, eq-eqb away 1 near)
-
--- a box and a mark that a mode asks for
-pub fits_marked : {mark : Bool} (mode : Mode) (state : Rc4) → mode ≡ Stateless → mark ≡ true → false ≡ box_fits mode state mark
-unfolding box_fits
-fits_marked mode state em e = rw (em, e, and-false (is_unkeyed state), and-false (permutation state.cells))
-
-pub fits_stateless : {mark t : Bool} (mode : Mode) (state : Rc4) → mode ≡ Stateless → mark ≡ false → t ≡ is_unkeyed state → t ≡ box_fits mode state mark
-unfolding box_fits
-fits_stateless {mark} {t} mode state em e et = rw (em, e, ← et) (by t et)
-  where
-    by : (t : Bool) → t ≡ is_unkeyed state → t ≡ permutation state.cells && (t && true)
-    by true et = sym (rw (unkeyed_permutation state (sym et)))
-    by false et = sym (and-false (permutation state.cells))
-
-pub fits_stateful : {t : Bool} (mode : Mode) (state : Rc4) (mark : Bool) → mode ≡ Stateful → t ≡ permutation state.cells → t ≡ box_fits mode state mark
-unfolding box_fits
-fits_stateful mode state mark em e = rw em (e ∙ sym (and-true (permutation state.cells)))
-
--- the bits above a header's count
-pub flags_fresh : (fresh : Bool) → fresh ≡ true → 0x9000 ≡ pick fresh bit_a 0 + bit_d
-flags_fresh fresh e = rw e
-
-pub flags_held : (fresh : Bool) → fresh ≡ false → 0x1000 ≡ pick fresh bit_a 0 + bit_d
-flags_held fresh e = rw e
-
--- a cipher, keyed afresh or as it is held
-pub cipher_fresh : {r : Rc4} (fresh : Bool) (keyed held : Rc4) → fresh ≡ true → r ≡ keyed → r ≡ pick fresh keyed held
-cipher_fresh fresh keyed held e er = rw e er
-
-pub cipher_held : (fresh : Bool) (keyed held : Rc4) → fresh ≡ false → held ≡ pick fresh keyed held
-cipher_held fresh keyed held e = rw e
-
--- a text enciphered under a record: from the key at once in stateless mode, and on the box in stateful mode
-pub applied : {ys : List ℕ} {n : ℕ} (l : Link) (fresh : Bool) (text out : List ℕ) → l.mode ≡ Stateless → by_mode l.mode fresh true ≡ true
-    → length text ≤ longest_plain → length text ≤ length out → length l.session ≡ 16 → n ≡ key_length l.strength
-    → ys ≡ apply_out (take n l.session) text out
-    → (l.state ≡ kept_box l (after (cipher_in l fresh) text)) × (ys ≡ written (run (cipher_in l fresh) text) out)
-applied l fresh text out mode always short fits full en ey =
-    let most = key_most l.strength in
-    let least = key_least l.strength in
-    let long : length (session_key_in l) ≡ key_length l.strength = length-take-le (key_length l.strength) l.session (omega arith) in
-    let is : fresh ≡ true = rw mode at always in
-    let done-is = apply_done (session_key_in l) text out (omega (arith, long)) (omega (arith, long)) (omega arith) fits in
-    (rw mode, ey ∙ rw (en, is) done-is.1)
-
-pub drawn_on : {cipher : Rc4} {ran : Ran} {ys : List ℕ} (l : Link) (fresh : Bool) (text out : List ℕ) → l.mode ≡ Stateful → length text ≤ longest_plain
-    → length text ≤ length out → cipher ≡ cipher_in l fresh → (ran ≡ run_answer cipher text out) × (ys ≡ run_out cipher text out)
-    → (ran.state ≡ kept_box l (after (cipher_in l fresh) text)) × (ys ≡ written (run (cipher_in l fresh) text) out)
-drawn_on {cipher} {ran} l fresh text out mode short fits ec (er, ey) =
-    let (state_is, run_is) = run_done (cipher_in l fresh) text out (omega arith) fits in
-    let ran-is : ran ≡ record { answer = done; state = after (cipher_in l fresh) text } = er ∙ rw ec state_is in
-    (ap (λ (x : Ran). x.state) ran-is ∙ rw mode, ey ∙ rw ec run_is)
-
--- a stateless packet is keyed afresh
-pub fresh_stateless : {made count : ℕ} {next : Link} {fresh : Bool} (l : Link) (key : List ℕ) → made ≡ next_changes l → next ≡ renewed l key count
-    → fresh ≡ (not (eqb made 0) || l.waiting) → by_mode next.mode fresh true ≡ true
-unfolding changes_over
-fresh_stateless {made} {count} {next} {fresh} l key em en ef = rw en (by l.mode refl)
-  where
-    by : (mode : Mode) → l.mode ≡ mode → by_mode mode fresh true ≡ true
-    by Stateless e = ef ∙ rw (em, e)
-    by Stateful e = refl
-
--- a text deciphered under a record
-pub deciphered_is : {ran : Ran} {ys : List ℕ} {n : ℕ} (l : Link) (fresh : Bool) (text out : List ℕ) → length l.session ≡ 16 → shortest_plain ≤ length text
-    → length text ≤ longest_plain → length text ≤ length out → n ≡ key_length l.strength
-    → (ran ≡ within_answer l.state fresh (take n l.session) 0x0021 0x00FA text out) × (ys ≡ within_out l.state fresh (take n l.session) 0x0021 0x00FA text out)
-    → (ran ≡ deciphered l fresh text) × (ys ≡ deciphered_out l fresh text out)
-unfolding deciphered deciphered_out keyed_if
-deciphered_is l fresh text out full long short fits en (er, ey) =
-    let most = key_most l.strength in
-    let least = key_least l.strength in
-    let key : length (session_key_in l) ≡ key_length l.strength = length-take-le (key_length l.strength) l.session (omega arith) in
-    let (answer-is, out-is) = within_fits l.state fresh (session_key_in l) 0x0021 0x00FA text out (omega arith) (omega arith) long (omega arith) fits in
-    (er ∙ rw en answer-is, ey ∙ rw en out-is)
-
--- a record after draws
-pub settled_stateful : {r : Link} {t : Bool} (l : Link) (drawn : Rc4) → t ≡ by_mode l.mode false true → t ≡ true → r ≡ with_box l drawn false → r ≡ settled_on l drawn
-settled_stateful l drawn e t er = er ∙ by l.mode (sym e ∙ t)
-  where
-    by : (mode : Mode) → by_mode mode false true ≡ true → with_box l drawn false ≡ with_box l (by_mode mode l.state drawn) false
-    by Stateless h = absurd (false≢true h)
-    by Stateful h = refl
-
-pub settled_stateless : {r : Link} {t : Bool} (l : Link) (drawn : Rc4) → t ≡ by_mode l.mode false true → t ≡ false → r ≡ with_box l l.state false → r ≡ settled_on l drawn
-settled_stateless l drawn e t er = er ∙ by l.mode (sym e ∙ t)
-  where
-    by : (mode : Mode) → by_mode mode false true ≡ false → with_box l l.state false ≡ with_box l (by_mode mode l.state drawn) false
-    by Stateless h = refl
-    by Stateful h = absurd (true≢false h)
-
--- a record that waits
-pub waits_on : {l' : Link} {cipher : Rc4} (l : Link) (made : ℕ) → cipher ≡ pick (not (eqb made 0)) (key_schedule (session_key_in l)) l.state
-    → l' ≡ with_box l cipher true → record { answer = waiting; changes = made; link = l' } ≡ waited_on l made
-unfolding waited_on
-waits_on l zero ec el = rw (el, ec)
-waits_on l (suc n) ec el = rw (el, ec, ne_eqb (suc n) 0 (suc-ne-zero n))
-
--- one place more that is 0, one that is not, and the end of the places
-pub zeros_more : {b : Bool} (l : List ℕ) (i : ℕ) → b ≡ zeros (drop i l) → get_or l i 0 ≡ 0 → i < length l → b ≡ zeros (drop (i + 1) l)
+-- zeros are zeros
+pub zeros_all : (n : ℕ) → zeros (replicate n 0) ≡ true
 unfolding zeros
-zeros_more l i e none h = e ∙ rw (drop-cons l i 0 h, eq-eqb (get_or l i 0) 0 none, add-one i)
+zeros_all zero = refl
+zeros_all (suc n) = zeros_all n
 
-pub zeros_not : {b : Bool} (l : List ℕ) (i : ℕ) → b ≡ zeros (drop i l) → (get_or l i 0 ≡ 0 → ⊥) → i < length l → false ≡ b
+-- a key in its places, and the places behind it
+pub key_back : (s : Strength) (key : List ℕ) → length key ≡ key_length s → take (key_length s) (placed key) ≡ key
+unfolding placed
+key_back s key h = rw (← h, take-append_seam key (replicate (16 - length key) 0))
+
+pub places_zero : (s : Strength) (key : List ℕ) → length key ≡ key_length s → zeros (drop (key_length s) (placed key)) ≡ true
+unfolding placed
+places_zero s key h = rw (← h, drop-append_seam key (replicate (16 - length key) 0), zeros_all (16 - length key))
+
+-- 16 places with zeros behind a key are that key in its places
+zeros_are : (l : List ℕ) → zeros l ≡ true → l ≡ replicate (length l) 0
 unfolding zeros
-zeros_not l i e some h = sym (e ∙ rw (drop-cons l i 0 h, ne_eqb (get_or l i 0) 0 some))
+zeros_are [] h = refl
+zeros_are (x ∷ xs) h =
+    let (here, rest) = both (eqb x 0) (zeros xs) h in
+    rw (eqb-true x 0 here) (ap (λ (l : List ℕ). 0 ∷ l) (zeros_are xs rest))
 
-pub zeros_end : {b : Bool} (l : List ℕ) (i : ℕ) → b ≡ zeros (drop i l) → length l ≤ i → true ≡ b
-unfolding zeros
-zeros_end l i e h = sym (e ∙ rw (drop_of_length-le l {i = i} h))
+pub places_back : (s : Strength) (places : List ℕ) → length places ≡ 16 → zeros (drop (key_length s) places) ≡ true → placed (take (key_length s) places) ≡ places
+unfolding placed
+places_back s places h z =
+    let k : ℕ = key_length s in
+    let long : length (take k places) ≡ k = length-take-le k places (omega (arith, key_most s)) in
+    let behind : drop k places ≡ replicate (16 - k) 0 = zeros_are (drop k places) z ∙ rw (length-drop k places, h) in
+    rw (long, ← behind) (take-append-drop k places)
 
--- a protocol number below its limits, and one that is not
-pub protocol_low : {r n : ℕ} → r ≡ n → r < 0x0021 → true ≡ outside 0x0021 0x00FA n
-protocol_low {r} {n} e h = sym (outside_low 0x0021 0x00FA n (omega arith))
+-- the session key of a record has the octets of its strength, and after n changes it is read back from its places
+pub session_length : (l : Link) → length l.session ≡ 16 → length (session_key_in l) ≡ key_length l.strength
+session_length l h = length-take-le (key_length l.strength) l.session (omega (arith, key_most l.strength))
 
-pub protocol_high : {r n : ℕ} → r ≡ n → 0x0021 ≤ r → ltb 0x00FA r ≡ outside 0x0021 0x00FA n
-protocol_high {r} {n} e h = rw (e, le-ltb n 0x0021 (omega arith))
+pub changed_back : (l : Link) (n : ℕ) → length l.session ≡ 16
+    → take (key_length l.strength) (placed (changes l.strength (start_key_in l) n (session_key_in l))) ≡ changes l.strength (start_key_in l) n (session_key_in l)
+changed_back l n h = key_back l.strength _ (changes_length l.strength (start_key_in l) n (session_key_in l) (session_length l h))
 
--- a record whose session key is changed
-pub moved_is : {places : List ℕ} (l : Link) (n count : ℕ) → places ≡ placed_changes l.strength l.start l.session n
-    → record { strength = l.strength; mode = l.mode; start = l.start; session = places; count = count; state = l.state; waiting = l.waiting }
-    ≡ renewed l (changes l.strength (start_key_in l) n (session_key_in l)) count
-unfolding placed_changes
-moved_is l n count e = rw e
+-- a list begins with what its first part begins with
+pub begins_front : (front key rest : List ℕ) → take (length front) key ≡ front → begins front (key ++ rest) ≡ true
+unfolding begins
+begins_front [] key rest e = refl
+begins_front (x ∷ front) [] rest e = absurd (omega (arith, ap (λ (l : List ℕ). length l) e))
+begins_front (x ∷ front) (y ∷ key) rest e =
+    rw (eq-eqb y x (ap (λ (l : List ℕ). get_or l 0 0) e), begins_front front key rest (ap (λ (l : List ℕ). drop 1 l) e))
 
--- the front of a sealed packet
-pub front_put : {flag : ℕ} {out' : List ℕ} (fresh : Bool) (count a b : ℕ) (out : List ℕ) → out' ≡ written (take (length out) (0x00 ∷ 0xFD ∷ a ∷ b ∷ [])) out
-    → flag ≡ pick fresh bit_a 0 + bit_d → a ≡ (flag + count) / 256 → b ≡ (flag + count) % 256 → count < counts → front ≤ length out
-    → out' ≡ written (0x00 ∷ 0xFD ∷ header fresh count) out
-front_put true count a b out e ef ea eb h long =
-    let high : a ≡ (bit_a + bit_d + count) / 256 ^ 1 % 256 = omega arith in
-    let low : b ≡ (bit_a + bit_d + count) / 256 ^ 0 % 256 = omega arith in
-    rw (e, take_all (length out) (0x00 ∷ 0xFD ∷ a ∷ b ∷ []) long, high, low)
-front_put false count a b out e ef ea eb h long =
-    let high : a ≡ (0 + bit_d + count) / 256 ^ 1 % 256 = omega arith in
-    let low : b ≡ (0 + bit_d + count) / 256 ^ 0 % 256 = omega arith in
-    rw (e, take_all (length out) (0x00 ∷ 0xFD ∷ a ∷ b ∷ []) long, high, low)
-
--- the only row of a table decides
-decided : (n : ℕ) (t : Bool) → (first_of ((n, t) ∷ []) ≡ done → ⊥) → t ≡ true
-decided n true h = refl
-decided n false h = absurd (h refl)
-
--- a start key of a wrong length, and one of the right one
-new_code : {k : Key} (s : Strength) (start : List ℕ) → k ≡ initial_key_answer s start → k.answer ≡ new_link_code s start
-unfolding initial_key_answer key_answer one_code
-new_code s start e = ap (λ (k : Key). k.answer) e
-
-pub new_refused : {k : Key} {l : Link} (s : Strength) (mode : Mode) (start : List ℕ) → k ≡ initial_key_answer s start → (k.answer ≡ done → ⊥)
-    → l ≡ no_link s mode → record { answer = size; link = l } ≡ new_link s mode start
-unfolding new_link
-new_refused s mode start e h el = rw (decided size (wrong (key_length s) start) (λ z. h (new_code s start e ∙ z)), el)
-
-pub new_done : {k : Key} {places : List ℕ} {state : Rc4} {mark : Bool} (s : Strength) (mode : Mode) (start : List ℕ) → k ≡ initial_key_answer s start
-    → k.answer ≡ done → places ≡ written (take 16 start) (replicate 16 0) → state ≡ unkeyed → mark ≡ by_mode mode false true
-    → record {
-      answer = done;
-      link = record { strength = s; mode = mode; start = places; session = k.octets; count = new_count; state = state; waiting = mark };
-    }
-    ≡ new_link s mode start
-unfolding new_link initial_key_answer key_answer one_code
-new_done s mode start e h ep es em =
-    let code : new_link_code s start ≡ done = sym (new_code s start e) ∙ h in
-    let long = right_length (key_length s) start (clear size ((size, wrong (key_length s) start) ∷ []) refl code).0 in
-    let key = key_placed start ep (omega (arith, long, key_most s)) in
-    rw (e, right (key_length s) start long, key, es, em)
-
--- a test and its opposite, as code takes them
-pub fails : {r : Bool} (t : Bool) → r ≡ t → not r ≡ true → t ≡ false
-fails {r} t e h = sym e ∙ not-true r h
-
-pub holds : {r : Bool} (t : Bool) → r ≡ t → not r ≡ false → t ≡ true
-holds {r} t e h = sym e ∙ not-false r h
-
--- .. and as the table's rows take them
-pub opposite : {r t b : Bool} → r ≡ t → not r ≡ b → not t ≡ b
-opposite e h = ap not (sym e) ∙ h
-
--- a record that is not well formed, by each of its tests, and what the last says
-pub well_count : (l : Link) → counts ≤ l.count → false ≡ well_formed l
+-- a record of keys with the lengths of their strength, a session key that begins as reduce leaves it, a count of 12 bits, and a box and a
+-- mark that its mode asks for
+pub well : (s : Strength) (mode : Mode) (start session : List ℕ) (count : ℕ) (state : Rc4) (mark : Bool) → length start ≡ key_length s
+    → length session ≡ key_length s → take (length (head_of s)) session ≡ head_of s → count < counts → box_fits mode state mark ≡ true
+    → well_formed (link_of s mode start session count state mark) ≡ true
 unfolding well_formed
-well_count l h = rw (le-ltb l.count counts h)
+well s mode start session count state mark hs hk head h fits =
+    let b : begins (head_of s) (placed session) ≡ true = unfold placed in begins_front (head_of s) session (replicate (16 - length session) 0) head in
+    rw (lt-ltb count counts h, places_zero s start hs, places_zero s session hk, b, fits)
 
-pub well_start : {n : ℕ} (l : Link) → n ≡ key_length l.strength → l.count < counts → zeros (drop n l.start) ≡ false → false ≡ well_formed l
+-- the box of a new link fits either mode
+pub unkeyed_fits : (mode : Mode) → box_fits mode unkeyed (by_mode mode false true) ≡ true
+unfolding box_fits
+unkeyed_fits Stateless = rw (unkeyed_permutation unkeyed unkeyed_found, unkeyed_found)
+unkeyed_fits Stateful = rw (unkeyed_permutation unkeyed unkeyed_found)
+
+-- what a well-formed record has
+pub well_parts : (l : Link) → well_formed l ≡ true
+    → (l.count < counts) × (zeros (drop (key_length l.strength) l.start) ≡ true) × (zeros (drop (key_length l.strength) l.session) ≡ true)
+    × (begins (head_of l.strength) l.session ≡ true) × (box_fits l.mode l.state l.waiting ≡ true)
 unfolding well_formed
-well_start l e h a = rw (lt-ltb l.count counts h, ← e, a)
+well_parts l h =
+    let count : Bool = ltb l.count counts in
+    let start : Bool = zeros (drop (key_length l.strength) l.start) in
+    let session : Bool = zeros (drop (key_length l.strength) l.session) in
+    let head : Bool = begins (head_of l.strength) l.session in
+    let (keys, box) = both (count && start && session && head) (box_fits l.mode l.state l.waiting) h in
+    let (places, begun) = both (count && start && session) head keys in
+    let (front, zero-session) = both (count && start) session places in
+    let (low, zero-start) = both count start front in
+    (ltb-true l.count counts low, zero-start, zero-session, begun, box)
 
-pub well_session : {n : ℕ} (l : Link) → n ≡ key_length l.strength → l.count < counts → zeros (drop n l.start) ≡ true
-    → zeros (drop n l.session) ≡ false → false ≡ well_formed l
+-- the box and the mark of a well-formed record, and those of a stateless one
+pub well_box : (l : Link) → well_formed l ≡ true → box_fits l.mode l.state l.waiting ≡ true
+well_box l h = (well_parts l h).4
+
+pub fits_unkeyed : (state : Rc4) (mark : Bool) → box_fits Stateless state mark ≡ true → is_unkeyed state ≡ true
+unfolding box_fits
+fits_unkeyed state mark h = (both (is_unkeyed state) (not mark) (both (permutation state.cells) (is_unkeyed state && not mark) h).1).0
+
+pub fits_unmarked : (mode : Mode) (state : Rc4) (mark : Bool) → mode ≡ Stateless → box_fits mode state mark ≡ true → mark ≡ false
+unfolding box_fits
+fits_unmarked mode state mark em h =
+    let h' : permutation state.cells && (is_unkeyed state && not mark) ≡ true = rw em at h in
+    not-true mark (both (is_unkeyed state) (not mark) (both (permutation state.cells) (is_unkeyed state && not mark) h').1).1
+
+-- zeros behind a key that fills its places or fewer, and what a key begins with
+zeros_drop : (n m : ℕ) → zeros (drop n (replicate m 0)) ≡ true
+zeros_drop zero m = zeros_all m
+zeros_drop (suc n) zero = unfold zeros in refl
+zeros_drop (suc n) (suc m) = zeros_drop n m
+
+zeros_behind : (n : ℕ) (key : List ℕ) (m : ℕ) → length key ≤ n → zeros (drop n (key ++ replicate m 0)) ≡ true
+zeros_behind n [] m h = zeros_drop n m
+zeros_behind zero (x ∷ key) m h = absurd (omega arith)
+zeros_behind (suc n) (x ∷ key) m h = zeros_behind n key m (omega arith)
+
+begins_still : (front key rest : List ℕ) (n : ℕ) → length front ≤ n → begins front key ≡ true → begins front (take n key ++ rest) ≡ true
+unfolding begins
+begins_still [] key rest n h e = refl
+begins_still (x ∷ front) [] rest n h e = absurd (false≢true e)
+begins_still (x ∷ front) (y ∷ key) rest zero h e = absurd (omega arith)
+begins_still (x ∷ front) (y ∷ key) rest (suc n) h e = go (eqb y x) e (begins_still front key rest n (omega arith))
+  where
+    go : (t : Bool) → pick t (begins front key) false ≡ true → (begins front key ≡ true → begins front (take n key ++ rest) ≡ true)
+        → pick t (begins front (take n key ++ rest)) false ≡ true
+    go true e later = later e
+    go false e later = e
+
+-- a box that is a permutation
+abbrev pub Box : Rc4 → Type 0
+Box state = permutation state.cells ≡ true
+
+pub after_box : (state : Rc4) (text : List ℕ) → Box state → Box (after state text)
+after_box state text h = whole_permutation (after state text).cells (after_whole state text (permutation_whole state.cells h))
+
+pub keyed_box : (key : List ℕ) → Box (key_schedule key)
+keyed_box key = whole_permutation (key_schedule key).cells (keyed_whole key)
+
+pub picked_box : (t : Bool) (a b : Rc4) → Box a → Box b → Box (pick t a b)
+picked_box true a b ha hb = ha
+picked_box false a b ha hb = hb
+
+-- the session key of a record after so many changes, in its places, is as well formed as the one before
+changed_well : (s : Strength) (start session : List ℕ) (n : ℕ) → begins (head_of s) session ≡ true
+    → (zeros (drop (key_length s) (placed (changes s start n (take (key_length s) session)))) ≡ true)
+    × (begins (head_of s) (placed (changes s start n (take (key_length s) session))) ≡ true)
+unfolding changes placed
+changed_well s start session zero h =
+    let key : List ℕ = take (key_length s) session in (
+      zeros_behind (key_length s) key (16 - length key) (omega (arith, length-take (key_length s) session)),
+      begins_still (head_of s) session (replicate (16 - length key) 0) (key_length s) (omega (arith, head_most s, key_least s)) h,
+    )
+changed_well s start session (suc n) h =
+    let key : List ℕ = key_change s start (changes s start n (take (key_length s) session)) in
+    let long : length key ≡ key_length s = key_change_length s start _ in (
+      zeros_behind (key_length s) key (16 - length key) (omega (arith, long)),
+      begins_front (head_of s) key (replicate (16 - length key) 0) (key_change_head s start _),
+    )
+
+-- the box that a record keeps where it is its own
+pub kept_own : (l : Link) → kept_box l l.state ≡ l.state
+kept_own l = by l.mode
+  where
+    by : (m : Mode) → by_mode m l.state l.state ≡ l.state
+    by Stateless = refl
+    by Stateful = refl
+
+-- the box that a record keeps after m key changes and then n, each of which keys it afresh in stateful mode: `keyed n` is that of the last
+pub boxes_add : (mode : Mode) (state : Rc4) (keyed : ℕ → Rc4) (m n : ℕ)
+    → by_mode mode (by_mode mode state (on_done m state (keyed 0))) (on_done n (by_mode mode state (on_done m state (keyed 0))) (keyed n))
+    ≡ by_mode mode state (on_done (m + n) state (keyed n))
+boxes_add Stateless state keyed m n = refl
+boxes_add Stateful state keyed m zero = rw add-zero
+boxes_add Stateful state keyed m (suc n) = rw add-suc
+
+-- the box that a record has once it has moved on to a header, and the one that the packet is opened with
+done_box : (n : ℕ) (a b : Rc4) → Box a → Box b → Box (on_done n a b)
+done_box zero a b ha hb = ha
+done_box (suc n) a b ha hb = hb
+
+header_box : (l : Link) (h : ℕ) → Box l.state → Box (box_for l h)
+unfolding box_for
+header_box l h held = done_box (changes_for l h) l.state (key_schedule (key_for l h)) held (keyed_box (key_for l h))
+
+pub state_box : (l : Link) (h : ℕ) → Box l.state → Box (state_for l h)
+unfolding state_for
+state_box l h held = picked_box (lacks bit_a h) _ _ (header_box l h held) (keyed_box (key_for l h))
+
+-- the box that a record keeps after draws, or after key changes
+fits_kept : (mode : Mode) (state drawn : Rc4) (mark : Bool) → (Box state → Box drawn) → box_fits mode state mark ≡ true
+    → box_fits mode (by_mode mode state drawn) mark ≡ true
+fits_kept Stateless state drawn mark next fits = fits
+fits_kept Stateful state drawn mark next fits = unfold box_fits in rw (next (both (permutation state.cells) true (unfold box_fits in fits)).0)
+
+fits_after : (mode : Mode) (state drawn : Rc4) (mark : Bool) → (Box state → Box drawn) → box_fits mode state mark ≡ true
+    → box_fits mode (by_mode mode state drawn) false ≡ true
+fits_after Stateless state drawn mark next fits = rw (fits_unmarked Stateless state mark refl fits) at fits
+fits_after Stateful state drawn mark next fits = unfold box_fits in fits_kept Stateful state drawn mark next fits
+
+pub changed_fits : (l : Link) (n : ℕ) (key : List ℕ) → well_formed l ≡ true
+    → box_fits l.mode (kept_box l (on_done n l.state (key_schedule key))) l.waiting ≡ true
+changed_fits l n key whole =
+    fits_kept l.mode l.state (on_done n l.state (key_schedule key)) l.waiting
+    (λ held. done_box n l.state (key_schedule key) held (keyed_box key)) (well_box l whole)
+
+-- a record after n key changes, with a count of 12 bits, and a box and a mark that its mode asks for, is well formed ..
+pub renewed_well : (l : Link) (n count : ℕ) (state : Rc4) (mark : Bool) → well_formed l ≡ true → count < counts → box_fits l.mode state mark ≡ true
+    → well_formed (with_box (renewed l (changes l.strength (start_key_in l) n (session_key_in l)) count) state mark) ≡ true
 unfolding well_formed
-well_session l e h a b = rw (lt-ltb l.count counts h, ← e, a, b)
+renewed_well l n count state mark whole low fits =
+    let (_, zeros-start, _, begun, _) = well_parts l whole in
+    let (zeros-key, head-key) = changed_well l.strength (start_key_in l) l.session n begun in
+    rw (lt-ltb count counts low, zeros-start, zeros-key, head-key, fits)
 
-pub well_head : {n : ℕ} (l : Link) → n ≡ key_length l.strength → l.count < counts → zeros (drop n l.start) ≡ true
-    → zeros (drop n l.session) ≡ true → begins (head_of l.strength) l.session ≡ false → false ≡ well_formed l
-unfolding well_formed
-well_head l e h a b c = rw (lt-ltb l.count counts h, ← e, a, b, c)
-
-pub well_last : {n : ℕ} {r : Bool} (l : Link) → n ≡ key_length l.strength → l.count < counts → zeros (drop n l.start) ≡ true
-    → zeros (drop n l.session) ≡ true → begins (head_of l.strength) l.session ≡ true → r ≡ box_fits l.mode l.state l.waiting → r ≡ well_formed l
-unfolding well_formed
-well_last l e h a b c last = last ∙ rw (lt-ltb l.count counts h, ← e, a, b, c)
-
--- a well-formed record's count
-pub count_bound : (l : Link) → well_formed l ≡ true → l.count < counts
-unfolding well_formed
-count_bound l h =
-    ltb-true l.count counts
-    (both (ltb l.count counts) _
-    (both (ltb l.count counts && _) _ (both (ltb l.count counts && _ && _) _ (both (ltb l.count counts && _ && _ && _) _ h).0).0).0).0
-
--- what a call hands back and leaves in the lent buffer is a result
-abbrev pub Gives : Outcome → List ℕ → Result → Type 0
-Gives r out result = (r ≡ result.outcome) × (out ≡ result.buffer)
-
--- a refusal
-refused_is : {r : Outcome} {code : ℕ} (result : Result) (code' : ℕ) (l : Link) (out : List ℕ) → code ≡ code' → (code ≡ done → ⊥) → r ≡ (refusal code l []).outcome
-    → Gives r out (on_done code' result (refusal code' l out))
-refused_is result code' l out e h er =
-    rw (not_done code' result (refusal code' l out) (λ z. h (e ∙ z)), er, e) (refl, refl)
-
--- a refused seal
-pub seal_refused : {code : ℕ} {r : Outcome} (limit : ℕ) (l : Link) (plain out : List ℕ) → code ≡ seal_code limit l plain (length out) → (code ≡ done → ⊥)
-    → r ≡ (refusal code l []).outcome → Gives r out (seal_result limit l plain out)
-unfolding seal_result
-seal_refused limit l plain out e h er = refused_is _ (seal_code limit l plain (length out)) l out e h er
-
--- a record and a plain packet that seal's table lets pass
-pub seal_passed : {code : ℕ} (limit : ℕ) (l : Link) (plain : List ℕ) (lent : ℕ) → code ≡ seal_code limit l plain lent → code ≡ done
-    → (l.count < counts) × (length plain ≤ limit) × (front + length plain ≤ lent)
-unfolding seal_code
-seal_passed limit l plain lent e z =
-    let rows : List (ℕ × Bool) = (not_record, not (well_formed l)) ∷ plain_rows limit plain lent in
-    let zero = sym e ∙ z in
-    let well = not-false (well_formed l) (clear not_record rows refl zero).0 in
-    let long = (within shortest_plain limit (length plain) (clear size rows refl zero).0).1 in
-    (count_bound l well, long, ltb-false lent (front + length plain) (clear room rows refl zero).0)
-
--- the part of a buffer behind a front that was put there
-part_behind : {out₁ : List ℕ} (head out : List ℕ) → out₁ ≡ written head out → length head ≡ 4
-    → (drop 4 out₁ ≡ drop 4 out) × (length out₁ - 4 ≡ length (drop 4 out))
-part_behind {out₁} head out e h =
-    let part : drop 4 out₁ ≡ drop 4 out = ap (drop 4) e ∙ drop_at head (drop (length head) out) 4 h ∙ ap (λ (n : ℕ). drop n out) h in
-    (part, sym (length-drop 4 out₁) ∙ ap (λ (m : List ℕ). length m) part)
-
--- there is such a part
-pub front_long : {out₁ : List ℕ} (fresh : Bool) (count : ℕ) (out : List ℕ) → out₁ ≡ written (0x00 ∷ 0xFD ∷ header fresh count) out → 4 ≤ length out₁
-front_long fresh count out e = rw e (omega arith)
-
--- a text put there
-behind_put : {out₁ ys : List ℕ} (head text out : List ℕ) → out₁ ≡ written head out → ys ≡ written text (drop 4 out) → length head ≡ 4
-    → put_mid 4 (length out₁ - 4) out₁ ys ≡ written (head ++ text) out
-behind_put {out₁} head text out e ey h =
-    let (part, long) = part_behind head out e h in
-    let lead : take 4 out₁ ≡ head = ap (take 4) e ∙ take_at head (drop (length head) out) 4 h in
-    rw
-    (ey, lead, part, long, drop-length (drop 4 out), append-nil, append_assoc, length-append head text, h, drop-drop (length text) 4 out)
-
--- the session key after n changes fills its places
-changed_back : (l : Link) (n : ℕ) → length l.session ≡ 16
-    → session_key_in (renewed l (changes l.strength (start_key_in l) n (session_key_in l)) l.count) ≡ changes l.strength (start_key_in l) n (session_key_in l)
-changed_back l n long =
-    let s : Strength = l.strength in
-    let held : length (session_key_in l) ≡ key_length s = length-take-le (key_length s) l.session (omega (arith, long, key_most s)) in
-    key_back s (changes s (start_key_in l) n (session_key_in l)) (changes_length s (start_key_in l) n (session_key_in l) held)
-
--- the room behind it
-whole_behind : {out₁ : List ℕ} (head out : List ℕ) → out₁ ≡ written head out → length head ≡ 4 → take (length out₁ - 4) (drop 4 out₁) ≡ drop 4 out
-whole_behind head out eh h4 =
-    let (part, long) = part_behind head out eh h4 in
-    rw (part, long) (take_all (length (drop 4 out)) (drop 4 out) (omega arith))
-
-pub behind_fits : {out₁ : List ℕ} (fresh : Bool) (count n : ℕ) (out : List ℕ) → out₁ ≡ written (0x00 ∷ 0xFD ∷ header fresh count) out → front + n ≤ length out
-    → n ≤ length (take (length out₁ - 4) (drop 4 out₁))
-behind_fits fresh count n out eh fits = rw (whole_behind (0x00 ∷ 0xFD ∷ header fresh count) out eh refl) (omega (arith, length-drop 4 out))
-
--- a seal that is done, from what code works out
-pub seal_finished : {code count made : ℕ} {next last : Link} {fresh : Bool} {kept : Rc4} {out₁ ys : List ℕ} (l : Link) (plain out : List ℕ)
-    → length l.session ≡ 16 → code ≡ seal_code longest_plain l plain (length out) → code ≡ done → count ≡ next_count l → made ≡ next_changes l
-    → next ≡ renewed l (changes l.strength (start_key_in l) made (session_key_in l)) count → fresh ≡ (not (eqb made 0) || l.waiting)
-    → out₁ ≡ written (0x00 ∷ 0xFD ∷ header fresh count) out
-    → (kept ≡ kept_box next (after (cipher_in next fresh) plain))
-    × (ys ≡ written (run (cipher_in next fresh) plain) (take (length out₁ - 4) (drop 4 out₁)))
-    → last ≡ with_box next kept false
-    → Gives (record { answer = done; changes = made; link = last }) (put_mid 4 (length out₁ - 4) out₁ ys) (seal_result longest_plain l plain out)
-unfolding seal_result packet_on next_box next_key
-seal_finished {code} {count} {made} {next} {last} {fresh} {kept} {out₁} {ys} l plain out full e z ec em en ef eo (ek, ey) el =
-    let key : List ℕ = next_key l in
-    let is : next ≡ renewed l key (next_count l) = en ∙ rw (em, ec) in
-    let session : session_key_in next ≡ key = ap session_key_in is ∙ changed_back l (next_changes l) full in
-    let freshly : fresh ≡ keys_afresh l = ef ∙ rw em in
-    let keyed : cipher_in next fresh ≡ next_box l = rw (freshly, session, is) in
-    let head : List ℕ = 0x00 ∷ 0xFD ∷ header (keys_afresh l) (next_count l) in
-    let eh : out₁ ≡ written head out = eo ∙ rw (ec, freshly) in
-    let whole = whole_behind head out eh refl in
-    let put : ys ≡ written (run (next_box l) plain) (drop 4 out) = ey ∙ rw (whole, keyed) in
-    let settled : last ≡ with_box (renewed l key (next_count l)) (kept_box l (after (next_box l) plain)) false = el ∙ rw (ek, keyed, is) in
-    rw (← e, z, settled, em) (refl, behind_put head (run (next_box l) plain) out eh put refl)
-
--- a refused open
-open_refusal : {r : Outcome} {code : ℕ} (result wait : Result) (code' : ℕ) (l : Link) (out : List ℕ) → code ≡ code' → (code ≡ done → ⊥) → (code ≡ waiting → ⊥)
-    → r ≡ (refusal code l []).outcome → Gives r out (on_done code' result (pick (eqb code' waiting) wait (refusal code' l out)))
-open_refusal result wait code' l out e h h' er =
-    rw (ne_eqb code' waiting (λ z. h' (e ∙ z))) (refused_is result code' l out e h er)
-
--- a packet refused by its shape or for its record
-pub open_refused : {code : ℕ} {r : Outcome} (limit far : ℕ) (l : Link) (packet out : List ℕ) → code ≡ front_code limit l packet → (code ≡ done → ⊥)
-    → r ≡ (refusal code l []).outcome → Gives r out (open_result limit far l packet out)
-unfolding open_result open_code front_code
-open_refused limit far l packet out e h er =
-    let h' : ℕ = header_in packet in
-    let rows : List (ℕ × Bool) = front_rows limit l packet in
-    let stop = rows_stop rows (header_rows far l h' ++ data_rows l h' (data_in packet) (length out)) λ z. h (e ∙ z) in
-    open_refusal _ (waited l h' out) (open_code limit far l packet (length out)) l out (unfold open_code in e ∙ sym stop) h (λ z. never waiting rows refl refl (sym e ∙ z)) er
-
--- a record and a packet that these rows let pass
-pub front_passed : {code : ℕ} (limit : ℕ) (l : Link) (packet : List ℕ) → code ≡ front_code limit l packet → code ≡ done
-    → (well_formed l ≡ true) × (front + shortest_plain ≤ length packet) × (length packet ≤ front + limit)
-unfolding front_code
-front_passed limit l packet e z =
-    let rows : List (ℕ × Bool) = front_rows limit l packet in
-    let zero = sym e ∙ z in
-    let (low, high) = within (front + shortest_plain) (front + limit) (length packet) (clear shape rows refl zero).0 in
-    (not-false (well_formed l) (clear not_record rows refl zero).0, low, high)
-
--- the data of a packet, as a part of it
-pub data_part : (packet : List ℕ) → take (length packet - front) (drop front packet) ≡ data_in packet
-data_part packet = take_all (length packet - front) (drop front packet) (omega (arith, length-drop front packet))
-
-pub data_bounds : {limit : ℕ} (packet : List ℕ) → front + shortest_plain ≤ length packet → length packet ≤ front + limit
-    → (shortest_plain ≤ length (take (length packet - front) (drop front packet))) × (length (take (length packet - front) (drop front packet)) ≤ limit)
-data_bounds packet low high =
-    let long = length-drop front packet in
-    rw (data_part packet) (omega (arith, long), omega (arith, long))
-
--- .. leave it to those for header and data
-pub open_passed : {code h : ℕ} {r : Outcome} {out₁ : List ℕ} (limit far : ℕ) (l : Link) (packet out : List ℕ) → code ≡ front_code limit l packet → code ≡ done
-    → h ≡ header_in packet → Gives r out₁ (data_result far l h (take (length packet - front) (drop front packet)) out)
-    → Gives r out₁ (open_result limit far l packet out)
-unfolding open_result open_code front_code data_result
-open_passed limit far l packet out e z eh made =
-    let h' : ℕ = header_in packet in
-    let pass = rows_pass (front_rows limit l packet) (header_rows far l h' ++ data_rows l h' (data_in packet) (length out)) refl (sym e ∙ z) in
-    rw pass (rw (eh, data_part packet) at made)
-
--- data refused by a row before the last
-pub data_refused : {code away : ℕ} {r : Outcome} (far : ℕ) (l : Link) (h : ℕ) (text out : List ℕ) → away ≡ away_for l h
-    → code ≡ header_code far l.mode l.waiting h away (length text) (length out) → (code ≡ waiting → ⊥) → (code ≡ done → ⊥)
-    → r ≡ (refusal code l []).outcome → Gives r out (data_result far l h text out)
-unfolding data_result header_code
-data_refused {code} far l h text out ef e here some er =
-    let rows : List (ℕ × Bool) = room_rows far l.mode l.waiting h (away_for l h) (length text) (length out) in
-    let last : List (ℕ × Bool) = (protocol, off_protocol (plain_for l h text)) ∷ [] in
-    let e' : code ≡ first_of rows = e ∙ rw ef in
-    open_refusal _ (waited l h out) (first_of (rows ++ last)) l out (e' ∙ sym (rows_stop rows last λ z. some (e' ∙ z))) some here er
-
--- data that these rows let pass: there is room, and the last row decides
-pub data_passed : {code : ℕ} (far away : ℕ) (l : Link) (h : ℕ) (text : List ℕ) (lent : ℕ) → code ≡ header_code far l.mode l.waiting h away (length text) lent
-    → code ≡ done → away ≡ away_for l h
-    → (length text ≤ lent) × (first_of (header_rows far l h ++ data_rows l h text lent) ≡ first_of ((protocol, off_protocol (plain_for l h text)) ∷ []))
-unfolding header_code
-data_passed far away l h text lent e z ef =
-    let rows : List (ℕ × Bool) = room_rows far l.mode l.waiting h (away_for l h) (length text) lent in
-    let last : List (ℕ × Bool) = (protocol, off_protocol (plain_for l h text)) ∷ [] in
-    let zero : first_of rows ≡ done = rw ef at (sym e ∙ z) in
-    (ltb-false lent (length text) (clear room rows refl zero).0, rows_pass rows last refl zero)
-
--- what code works out of a header: its distance, the key changes, and the record with them made
-abbrev pub Worked : Link → (h away made : ℕ) → Link → Type 0
-Worked l h away made next =
-    (away ≡ away_for l h)
-    × (made ≡ changes_over l.mode l.count away)
-    × (next ≡ renewed l (changes l.strength (start_key_in l) made (session_key_in l)) (count_of h))
-
-worked_is : {next : Link} (away made : ℕ) (l : Link) (h : ℕ) → length l.session ≡ 16 → Worked l h away made next
-    → (made ≡ changes_for l h) × (next ≡ renewed l (key_for l h) (count_of h)) × (session_key_in next ≡ key_for l h)
+-- .. so is one that has moved on to a header's count and key ..
+moved_well : (l : Link) (h : ℕ) (state : Rc4) (mark : Bool) → well_formed l ≡ true → box_fits l.mode state mark ≡ true
+    → well_formed (with_box (renewed l (key_for l h) (count_of h)) state mark) ≡ true
 unfolding key_for
-worked_is {next} away made l h full (ef, em, en) =
-    let made_is : made ≡ changes_for l h = em ∙ rw ef in
-    let is : next ≡ renewed l (key_for l h) (count_of h) = unfold key_for in en ∙ rw made_is in
-    (made_is, is, ap session_key_in is ∙ unfold key_for in changed_back l (changes_for l h) full)
+moved_well l h state mark whole fits = renewed_well l (changes_for l h) (count_of h) state mark whole (omega arith) fits
 
--- the box that it deciphers with
-cipher_for : (lacks_a : Bool) (made : ℕ) (keyed held : Rc4) → pick (not (eqb made 0) || not lacks_a) keyed held ≡ pick lacks_a (on_done made held keyed) keyed
-cipher_for true zero keyed held = refl
-cipher_for true (suc n) keyed held = rw (ne_eqb (suc n) 0 (suc-ne-zero n))
-cipher_for false zero keyed held = refl
-cipher_for false (suc n) keyed held = rw (ne_eqb (suc n) 0 (suc-ne-zero n))
+-- .. the record after an opened packet ..
+pub after_well : (l : Link) (h : ℕ) (text : List ℕ) → well_formed l ≡ true → well_formed (link_after l h text) ≡ true
+after_well l h text whole =
+    moved_well l h (kept_box l (after (state_for l h) text)) false whole
+    (fits_after l.mode l.state (after (state_for l h) text) l.waiting (λ held. after_box (state_for l h) text (state_box l h held)) (well_box l whole))
 
-abbrev pub Freshly : (h made : ℕ) (lacks_a fresh : Bool) → Type 0
-Freshly h made lacks_a fresh = (lacks_a ≡ lacks bit_a h) × (fresh ≡ (not (eqb made 0) || not lacks_a))
-
-deciphers : {next : Link} {lacks_a fresh : Bool} (away made : ℕ) (l : Link) (h : ℕ) → length l.session ≡ 16 → Worked l h away made next
-    → Freshly h made lacks_a fresh → cipher_in next fresh ≡ state_for l h
-unfolding state_for box_for
-deciphers {next} away made l h full work (ea, ef) =
-    let (made_is, is, kept) = worked_is away made l h full work in
-    let state : next.state ≡ l.state = ap (λ (m : Link). m.state) is in
-    rw (ef, ea, kept, state, made_is) (cipher_for (lacks bit_a h) (changes_for l h) (key_schedule (key_for l h)) l.state)
-
--- data that are waited for
-pub data_waits : {code away made : ℕ} {next : Link} {r : Outcome} (far : ℕ) (l : Link) (h : ℕ) (text out : List ℕ) → length l.session ≡ 16
-    → code ≡ header_code far l.mode l.waiting h away (length text) (length out) → code ≡ waiting → Worked l h away made next
-    → r ≡ waited_on next made → Gives r out (data_result far l h text out)
-unfolding data_result header_code waited_on box_for
-data_waits {code} {away} {made} {next} far l h text out full e z work er =
-    let rows : List (ℕ × Bool) = room_rows far l.mode l.waiting h (away_for l h) (length text) (length out) in
-    let last : List (ℕ × Bool) = (protocol, off_protocol (plain_for l h text)) ∷ [] in
-    let e' : first_of rows ≡ waiting = rw work.0 at (sym e ∙ z) in
-    let code' : first_of (rows ++ last) ≡ waiting = rows_stop rows last (λ q. omega (arith, q, e')) ∙ e' in
-    let (made_is, is, kept) = worked_is away made l h full work in
-    let state : next.state ≡ l.state = ap (λ (m : Link). m.state) is in
-    rw code' (er ∙ rw (kept, state, made_is, is), refl)
-
--- data refused by the last row, and data that are opened
-module _ {code away made : ℕ} {next : Link} {lacks_a fresh : Bool} {ran : Ran} {out₁ : List ℕ} (far : ℕ) (l : Link) (h : ℕ) (text out : List ℕ)
-    (full : length l.session ≡ 16) (e : code ≡ header_code far l.mode l.waiting h away (length text) (length out)) (z : code ≡ done)
-    (work : Worked l h away made next) (keyed : Freshly h made lacks_a fresh)
-    (ec : (ran ≡ deciphered next fresh text) × (out₁ ≡ deciphered_out next fresh text out)) where
-  last_row : ran.answer ≡ first_of (header_rows far l h ++ data_rows l h text (length out))
-  unfolding deciphered plain_for
-  last_row = ap (λ (r : Ran). r.answer) ec.0 ∙ rw (deciphers away made l h full work keyed) (sym (data_passed far away l h text (length out) e z work.0).1)
-
-  pub data_off : {r : Outcome} → (ran.answer ≡ done → ⊥) → r ≡ (refusal protocol l []).outcome → Gives r out₁ (data_result far l h text out)
-  unfolding data_result deciphered deciphered_out
-  data_off some el =
-      let plain : List ℕ = run (cipher_in next fresh) text in
-      let judged : ran.answer ≡ carried_code plain = unfold deciphered in ap (λ (r : Ran). r.answer) ec.0 in
-      let off : carried_code plain ≡ protocol = ap (λ t. first_of ((protocol, t) ∷ [])) (decided protocol (off_protocol plain) (λ q. some (judged ∙ q))) in
-      let code : protocol ≡ first_of (header_rows far l h ++ data_rows l h text (length out)) = sym (judged ∙ off) ∙ last_row in
-      let kept : out₁ ≡ out = unfold deciphered_out in ec.1 ∙ rw off in
-      rw kept (open_refusal _ (waited l h out) (first_of (header_rows far l h ++ data_rows l h text (length out))) l out code (λ q. omega (arith, q)) (λ q. omega (arith, q)) el)
-
-  pub data_opened : {after' : Link} → ran.answer ≡ done → after' ≡ settled_on next ran.state
-      → Gives (record { answer = done; changes = made; link = after' }) out₁ (data_result far l h text out)
-  unfolding data_result plain_for deciphered deciphered_out
-  data_opened {after'} done-is el =
-      let plain : List ℕ = run (cipher_in next fresh) text in
-      let (made_is, is, kept) = worked_is away made l h full work in
-      let box = deciphers away made l h full work keyed in
-      let code : first_of (header_rows far l h ++ data_rows l h text (length out)) ≡ done = sym last_row ∙ done-is in
-      let judged : carried_code plain ≡ done = unfold deciphered in sym (ap (λ (r : Ran). r.answer) ec.0) ∙ done-is in
-      let left : ran.state ≡ after (state_for l h) text = unfold deciphered in ap (λ (r : Ran). r.state) ec.0 ∙ rw (judged, box) in
-      let settled : after' ≡ link_after l h text = el ∙ rw (left, is) in
-      rw (code, settled, made_is) (refl, ec.1 ∙ rw (judged, box))
-
--- a Reset-Request: a record that is not well formed, octets that are none, and one that is taken
-pub reset_ill : {r : Outcome} (l : Link) (request : List ℕ) → well_formed l ≡ false → r ≡ (refusal not_record l []).outcome → r ≡ reset_outcome l request
-unfolding reset_outcome reset_code
-reset_ill l request h er = rw h er
-
-pub reset_none : {r : Outcome} {read : Reset} (l : Link) (request : List ℕ) → well_formed l ≡ true → read ≡ reset_answer request → (read.answer ≡ done → ⊥)
-    → r ≡ (refusal shape l []).outcome → r ≡ reset_outcome l request
-unfolding reset_outcome reset_code
-reset_none l request h e some er = rw (h, reset_shape request (λ z. some (ap (λ (x : Reset). x.answer) e ∙ z))) er
-
-pub reset_taken : {read : Reset} {mark : Bool} {l' : Link} (l : Link) (request : List ℕ) → well_formed l ≡ true → read ≡ reset_answer request → read.answer ≡ done
-    → mark ≡ by_mode l.mode false true → l' ≡ with_box l l.state mark → record { answer = done; changes = 0; link = l' } ≡ reset_outcome l request
-unfolding reset_outcome reset_code
-reset_taken l request h e z em el =
-    let rows : first_of (reset_rows request) ≡ done = reset_done request (sym (ap (λ (x : Reset). x.answer) e) ∙ z) in
-    rw (h, rows, el, em) (by l.mode l.waiting (λ m. fits_unmarked l.mode l.state l.waiting m (well_box l h)))
+-- .. and the one of a stateful link that waits
+waited_well : (l : Link) (h : ℕ) (out : List ℕ) → l.mode ≡ Stateful → well_formed l ≡ true → well_formed (waited l h out).outcome.link ≡ true
+unfolding box_fits
+waited_well l h out mode whole = moved_well l h (box_for l h) true whole (fits l.mode mode (well_box l whole))
   where
-    by : (mode : Mode) (mark : Bool) → (mode ≡ Stateless → mark ≡ false)
-        → ◌≡◌ {A = Outcome} (record { answer = done; changes = 0; link = with_box l l.state (by_mode mode false true) })
-        (record { answer = done; changes = 0; link = with_box l l.state (by_mode mode mark true) })
-    by Stateless mark e = rw (e refl)
-    by Stateful mark e = refl
+    fits : (m : Mode) → m ≡ Stateful → box_fits m l.state l.waiting ≡ true → box_fits m (box_for l h) true ≡ true
+    fits m e held = let box : Box l.state = (both (permutation l.state.cells) _ held).0 in rw (e, header_box l h box)
 
--- a packet judged before its data are there: by an ill-formed record, by the length of its data, and by its header
-pub judged_ill : (limit far : ℕ) (l : Link) (h n : ℕ) → well_formed l ≡ false → record { answer = not_record; changes = 0 } ≡ judged limit far l h n
-unfolding judged
-judged_ill limit far l h n ill = rw ill
+-- a packet with data of a carried length passes the rows that the record and the packet's shape decide
+pub front_none : (limit : ℕ) (l : Link) (fresh : Bool) (count : ℕ) (text : List ℕ) → well_formed l ≡ true → outside shortest_plain limit (length text) ≡ false
+    → first_of (front_rows limit l (0x00 ∷ 0xFD ∷ header fresh count ++ text)) ≡ done
+front_none limit l fresh count text well long =
+    let packet : List ℕ = 0x00 ∷ 0xFD ∷ header fresh count ++ text in
+    let (low, high) = within shortest_plain limit (length text) long in
+    let whole : outside (front + shortest_plain) (front + limit) (length packet) ≡ false =
+    outside_none (front + shortest_plain) (front + limit) (length packet) (omega arith) (omega arith) in
+    rw (well, whole)
 
-pub judged_misshapen : {away made : ℕ} (limit far : ℕ) (l : Link) (h n : ℕ) → well_formed l ≡ true → away ≡ away_for l h
-    → made ≡ changes_over l.mode l.count away → outside shortest_plain limit n ≡ true → record { answer = shape; changes = made } ≡ judged limit far l h n
-unfolding judged
-judged_misshapen limit far l h n well ea em long = rw (well, long, em, ea)
+-- what a sealed packet's header says
+abbrev pub header_of : Bool → ℕ → ℕ
+header_of fresh count = pick fresh bit_a 0 + bit_d + count
 
-pub judged_header : {away made code : ℕ} (limit far : ℕ) (l : Link) (h n : ℕ) → well_formed l ≡ true → away ≡ away_for l h
-    → made ≡ changes_over l.mode l.count away → outside shortest_plain limit n ≡ false → code ≡ header_code far l.mode l.waiting h away 0 0
-    → record { answer = code; changes = made } ≡ judged limit far l h n
-unfolding judged header_code
-judged_header limit far l h n well ea em long ec = rw (ec, well, long, em, ea)
+pub sealed_header : (fresh : Bool) (state : Rc4) (count : ℕ) (plain : List ℕ) → count < counts → header_in (packet_on fresh state count plain) ≡ header_of fresh count
+unfolding packet_on
+sealed_header true state count plain h = omega arith
+sealed_header false state count plain h = omega arith
+
+pub header_count : (fresh : Bool) (count : ℕ) → count < counts → count_of (header_of fresh count) ≡ count
+header_count true count h = omega arith
+header_count false count h = omega arith
+
+pub header_A : (fresh : Bool) (count : ℕ) → count < counts → lacks bit_a (header_of fresh count) ≡ not fresh
+header_A true count h =
+    let one : (bit_a + bit_d + count) / bit_a % 2 ≡ 1 = omega arith in
+    rw one
+header_A false count h =
+    let none : (0 + bit_d + count) / bit_a % 2 ≡ 0 = omega arith in
+    rw none
+
+pub header_D : (fresh : Bool) (count : ℕ) → count < counts → lacks bit_d (header_of fresh count) ≡ false
+header_D true count h =
+    let one : (bit_a + bit_d + count) / bit_d % 2 ≡ 1 = omega arith in
+    rw one
+header_D false count h =
+    let one : (0 + bit_d + count) / bit_d % 2 ≡ 1 = omega arith in
+    rw one
+
+-- how many counts end in 0xFF, without counting them
+pub endings_are : (last d : ℕ) → endings last d ≡ (last + d + 1) / 256 - (last + 1) / 256
+unfolding endings
+endings_are last zero = omega arith
+endings_are last (suc d) = one (eqb ((last + suc d) % 256) 255) refl (endings_are last d)
+  where
+    one : (t : Bool) → eqb ((last + suc d) % 256) 255 ≡ t → endings last d ≡ (last + d + 1) / 256 - (last + 1) / 256
+        → endings last d + pick t 1 0 ≡ (last + suc d + 1) / 256 - (last + 1) / 256
+    one true e ih = omega (arith, ih, eqb-true ((last + suc d) % 256) 255 e)
+    one false e ih = omega (arith, ih, eqb-false ((last + suc d) % 256) 255 e)
+
+-- no count brings no key change, and the changes that counts bring add up, wherever the counts are cut
+pub none_over : (mode : Mode) (last : ℕ) → changes_over mode last 0 ≡ 0
+unfolding changes_over endings
+none_over Stateless last = refl
+none_over Stateful last = refl
+
+pub changes_over_add : (mode : Mode) (last d e : ℕ)
+    → changes_over mode last d + changes_over mode ((last + d) % counts) e ≡ changes_over mode last (d + e)
+unfolding changes_over
+changes_over_add Stateless last d e = refl
+changes_over_add Stateful last d e = omega (arith, endings_are last d, endings_are ((last + d) % counts) e, endings_are last (d + e))
+
+-- .. and so do the counts, which wrap
+pub counts_add : (last d e : ℕ) → ((last + d) % counts + e) % counts ≡ (last + (d + e)) % counts
+counts_add last d e = omega arith
+
+-- no count brings more than one key change
+pub changes_few : (mode : Mode) (last d : ℕ) → changes_over mode last d ≤ d
+unfolding changes_over
+changes_few Stateless last d = omega arith
+changes_few Stateful last d = omega (arith, endings_are last d)
+
+-- the distance from the count that the record holds when `next` packets are sealed to the count of packet q
+pub distance_is : (next q : ℕ) → next ≤ q → suc (q - next) < counts → distance ((next + new_count) % counts) (q % counts) ≡ suc (q - next)
+distance_is next q low near = omega arith
+
+-- .. to that of the packet before it, which the record holds ..
+pub distance_none : (q : ℕ) → distance ((suc q + new_count) % counts) (q % counts) ≡ 0
+distance_none q = omega arith
+
+-- .. and to that of one that this packet has overtaken
+pub distance_behind : (next q : ℕ) → suc q < next → next - suc q < counts → distance ((next + new_count) % counts) (q % counts) ≡ counts - (next - suc q)
+distance_behind next q low near = omega arith
+
+-- a count is the last one, moved on by its distance
+pub distance_back : (last arrived : ℕ) → last < counts → arrived < counts → (last + distance last arrived) % counts ≡ arrived
+distance_back last arrived low known = omega arith
+
+-- two ways from one count to another, less than a round apart, are as long
+same_round : (last s d : ℕ) → (last + s) % counts ≡ (last + d) % counts → s ≤ counts → d < counts → 0 < d → s ≡ d
+same_round last s d e most below some =
+    let low : (last + s) / counts ≤ (last + d) / counts = omega arith in
+    let high : (last + d) / counts ≤ (last + s) / counts = omega arith in
+    omega (arith, low, high)
+
+-- two distances in a row are one, where they do not go round
+pub distance_add : (last between arrived : ℕ) → last < counts → between < counts → arrived < counts → distance last between + distance between arrived ≤ counts
+    → 0 < distance last arrived → distance last between + distance between arrived ≡ distance last arrived
+distance_add last between arrived hl hb ha =
+    by (distance last between) (distance between arrived) (distance last arrived) (distance_back last between hl hb) (distance_back between arrived hb ha)
+    (distance_back last arrived hl ha) (omega arith)
+  where
+    by : (d₁ d₂ d₃ : ℕ) → (last + d₁) % counts ≡ between → (between + d₂) % counts ≡ arrived → (last + d₃) % counts ≡ arrived → d₃ < counts → d₁ + d₂ ≤ counts → 0 < d₃
+        → d₁ + d₂ ≡ d₃
+    by d₁ d₂ d₃ e₁ e₂ e₃ below most some = same_round last (d₁ + d₂) d₃ (sym (counts_add last d₁ d₂) ∙ ap (λ c. (c + d₂) % counts) e₁ ∙ e₂ ∙ sym e₃) most below some
+
+-- 6 and 10 never both apply, so no answer shows which of the two is tested first
+pub either_first : (far away : ℕ) (rest : List (ℕ × Bool))
+    → first_of ((repeat, eqb away 0) ∷ (late, ltb far away) ∷ rest) ≡ first_of ((late, ltb far away) ∷ (repeat, eqb away 0) ∷ rest)
+either_first far zero rest = rw (le-ltb far 0 (omega arith))
+either_first far (suc n) rest = rw (ne_eqb (suc n) 0 (suc-ne-zero n))
+
+-- no report is above the farthest distance, whatever the record and the packet are
+pub report_bound : (limit far : ℕ) (l : Link) (packet out : List ℕ) → (open_result limit far l packet out).outcome.changes ≤ far
+unfolding open_result open_code
+report_bound limit far l packet out = go (open_code limit far l packet (length out)) refl
+  where
+    rows : List (ℕ × Bool)
+    rows = open_rows limit far l packet (length out)
+
+    near : ltb far (away_for l (header_in packet)) ≡ false → changes_for l (header_in packet) ≤ far
+    near e = omega (arith, ltb-false far (away_for l (header_in packet)) e, changes_few l.mode l.count (away_for l (header_in packet)))
+
+    go : (code : ℕ) → first_of rows ≡ code → (opened_by code l (header_in packet) (data_in packet) out).outcome.changes ≤ far
+    go zero e = near (clear late rows refl e).0
+    go (suc n) e = by (eqb (suc n) waiting) refl
+      where
+        by : (t : Bool) → eqb (suc n) waiting ≡ t → (pick t (waited l (header_in packet) out) (refusal (suc n) l out)).outcome.changes ≤ far
+        by true w = near (clear late (take 7 rows) refl (rows_passed waiting (take 7 rows) (drop 7 rows) refl (e ∙ eqb-true (suc n) waiting w))).0
+        by false w = omega arith
+
+-- open answers the first number that applies
+pub open_answers : (limit far : ℕ) (l : Link) (packet out : List ℕ) → (open_result limit far l packet out).outcome.answer ≡ open_code limit far l packet (length out)
+unfolding open_result
+open_answers limit far l packet out = go (open_code limit far l packet (length out))
+  where
+    by : (code : ℕ) (t : Bool) → eqb code waiting ≡ t → (pick t (waited l (header_in packet) out) (refusal code l out)).outcome.answer ≡ code
+    by code true e = sym (eqb-true code waiting e)
+    by code false e = refl
+
+    go : (code : ℕ) → (opened_by code l (header_in packet) (data_in packet) out).outcome.answer ≡ code
+    go zero = refl
+    go (suc n) = by (suc n) (eqb (suc n) waiting) refl
+
+-- what it gives where its table refuses, but for 11
+pub open_other : (limit far : ℕ) (l : Link) (packet lent : List ℕ) → open_code limit far l packet (length lent) ≢ done
+    → open_code limit far l packet (length lent) ≢ waiting
+    → open_result limit far l packet lent ≡ refusal (open_code limit far l packet (length lent)) l lent
+unfolding open_result
+open_other limit far l packet lent not0 not11 =
+    let code : ℕ = open_code limit far l packet (length lent) in
+    rw (ne_eqb code waiting not11) (not_done code _ (refusal code l lent) not0)
+
+-- what it gives where it answers 0, and where it answers 11
+pub open_done : (limit far : ℕ) (l : Link) (packet out : List ℕ) → (open_result limit far l packet out).outcome.answer ≡ done
+    → open_result limit far l packet out
+    ≡ finished (changes_for l (header_in packet)) (link_after l (header_in packet) (data_in packet)) (written (plain_for l (header_in packet) (data_in packet)) out)
+unfolding open_result
+open_done limit far l packet out e = rw (sym (open_answers limit far l packet out) ∙ e)
+
+pub open_waits : (limit far : ℕ) (l : Link) (packet out : List ℕ) → (open_result limit far l packet out).outcome.answer ≡ waiting
+    → open_result limit far l packet out ≡ waited l (header_in packet) out
+unfolding open_result
+open_waits limit far l packet out e = rw (sym (open_answers limit far l packet out) ∙ e)
+
+-- where it answers another number than 7 the record is well formed ..
+pub open_record : (limit far : ℕ) (l : Link) (packet out : List ℕ) (code : ℕ) → (open_result limit far l packet out).outcome.answer ≡ code
+    → eqb code not_record ≡ false → well_formed l ≡ true
+open_record limit far l packet out code answered other = by (well_formed l) refl
+  where
+    by : (t : Bool) → well_formed l ≡ t → t ≡ true
+    by true e = refl
+    by false e =
+        let ill : open_code limit far l packet (length out) ≡ not_record = unfold open_code in rw e in
+        absurd (false≢true (sym other ∙ eq-eqb code not_record (sym answered ∙ open_answers limit far l packet out ∙ ill)))
+
+-- .. and the packet's count is the last one, moved on by its distance
+pub open_count : (limit far : ℕ) (l : Link) (packet out : List ℕ) (code : ℕ) → (open_result limit far l packet out).outcome.answer ≡ code
+    → eqb code not_record ≡ false → (l.count + away_for l (header_in packet)) % counts ≡ count_of (header_in packet)
+open_count limit far l packet out code answered other =
+    distance_back l.count (count_of (header_in packet)) (well_parts l (open_record limit far l packet out code answered other)).0 (omega arith)
+
+-- seal answers the first number that applies too, and what it gives where that is 0
+pub seal_answers : (limit : ℕ) (l : Link) (plain out : List ℕ) → (seal_result limit l plain out).outcome.answer ≡ seal_code limit l plain (length out)
+unfolding seal_result
+seal_answers limit l plain out = by (seal_code limit l plain (length out)) _ _ _
+  where
+    by : (code changed : ℕ) (next : Link) (buffer : List ℕ) → (on_done code (finished changed next buffer) (refusal code l out)).outcome.answer ≡ code
+    by zero changed next buffer = refl
+    by (suc n) changed next buffer = refl
+
+pub seal_done : (limit : ℕ) (l : Link) (plain out : List ℕ) → (seal_result limit l plain out).outcome.answer ≡ done
+    → seal_result limit l plain out
+    ≡ finished (next_changes l) (with_box (renewed l (next_key l) (next_count l)) (kept_box l (after (next_box l) plain)) false)
+    (written (packet_on (keys_afresh l) (next_box l) (next_count l) plain) out)
+unfolding seal_result
+seal_done limit l plain out e = rw (sym (seal_answers limit l plain out) ∙ e)
+
+-- with a stateless record no packet is waited for
+pub no_waiting : (limit far : ℕ) (l : Link) (packet : List ℕ) (lent : ℕ) → l.mode ≡ Stateless → open_code limit far l packet lent ≡ waiting → ⊥
+unfolding open_code
+no_waiting limit far l packet lent mode e =
+    let rows : List (ℕ × Bool) = open_rows limit far l packet lent in
+    let h : ℕ = header_in packet in
+    let early = rows_passed waiting (take 7 rows) (drop 7 rows) refl e in
+    let flag : by_mode l.mode (lacks bit_a h) false ≡ false = (clear flags (take 7 rows) refl early).0 in
+    let set : lacks bit_a h ≡ false = rw mode at flag in
+    let left : first_of (drop 7 rows) ≡ waiting = sym (rows_pass (take 7 rows) (drop 7 rows) refl early) ∙ e in
+    never waiting (data_rows l h (data_in packet) lent) refl refl (rw set at left)
+
+-- a record that waits is stateful
+pub waits_stateful : (limit far : ℕ) (l : Link) (packet out : List ℕ) → (open_result limit far l packet out).outcome.answer ≡ waiting → l.mode ≡ Stateful
+waits_stateful limit far l packet out e = by l.mode refl
+  where
+    by : (m : Mode) → l.mode ≡ m → m ≡ Stateful
+    by Stateless mode = absurd (no_waiting limit far l packet (length out) mode (sym (open_answers limit far l packet out) ∙ e))
+    by Stateful mode = refl
+
+-- open keeps a record well formed, whatever it answers
+pub open_well : (limit far : ℕ) (l : Link) (packet out : List ℕ) → well_formed l ≡ true → well_formed (open_result limit far l packet out).outcome.link ≡ true
+unfolding open_result
+open_well limit far l packet out whole = go (open_code limit far l packet (length out)) refl
+  where
+    by_mode_lem : (m : Mode) → l.mode ≡ m → open_code limit far l packet (length out) ≡ waiting → well_formed (waited l (header_in packet) out).outcome.link ≡ true
+    by_mode_lem Stateless e w = absurd (no_waiting limit far l packet (length out) e w)
+    by_mode_lem Stateful e w = waited_well l (header_in packet) out e whole
+
+    by : (code : ℕ) (t : Bool) → open_code limit far l packet (length out) ≡ code → eqb code waiting ≡ t
+        → well_formed (pick t (waited l (header_in packet) out) (refusal code l out)).outcome.link ≡ true
+    by code true e w = by_mode_lem l.mode refl (e ∙ eqb-true code waiting w)
+    by code false e w = whole
+
+    go : (code : ℕ) → open_code limit far l packet (length out) ≡ code → well_formed (opened_by code l (header_in packet) (data_in packet) out).outcome.link ≡ true
+    go zero e = after_well l (header_in packet) (data_in packet) whole
+    go (suc n) e = by (suc n) (eqb (suc n) waiting) e refl
+
+-- with room for the plain packet, the length of the lent buffer decides nothing ..
+pub open_room : (limit far : ℕ) (l : Link) (packet : List ℕ) (lent : ℕ) → length packet - front ≤ lent
+    → open_code limit far l packet lent ≡ open_code limit far l packet (length packet - front)
+unfolding open_code
+open_room limit far l packet lent h =
+    let long : length (data_in packet) ≡ length packet - front = length-drop front packet in
+    rw (long, le-ltb lent (length packet - front) h, le-ltb (length packet - front) (length packet - front) (omega arith))
+
+-- .. and what is in it nothing of the outcome
+pub outcome_by : (code : ℕ) (l : Link) (h : ℕ) (text a b : List ℕ) → (opened_by code l h text a).outcome ≡ (opened_by code l h text b).outcome
+outcome_by zero l h text a b = refl
+outcome_by (suc n) l h text a b = by (eqb (suc n) waiting)
+  where
+    by : (t : Bool) → (pick t (waited l h a) (refusal (suc n) l a)).outcome ≡ (pick t (waited l h b) (refusal (suc n) l b)).outcome
+    by true = refl
+    by false = refl
+
+-- in stateless mode the front of a packet and its protocol octets decide all of the outcome
+pub open_front : (limit far : ℕ) (l : Link) (packet a b : List ℕ) → l.mode ≡ Stateless → outside (front + shortest_plain) (front + limit) (length packet) ≡ false
+    → length packet - front ≤ length a → shortest_plain ≤ length b
+    → (open_result limit far l packet a).outcome ≡ (open_result limit far l (take (front + shortest_plain) packet) b).outcome
+unfolding open_result open_code plain_for run
+open_front limit far l packet a b mode inside enough two =
+    let (low, high) = within (front + shortest_plain) (front + limit) (length packet) inside in by packet inside low high enough
+  where
+    own : (x y : Rc4) → kept_box l x ≡ kept_box l y
+    own x y = rw mode
+
+    texts : (code h : ℕ) (t t' : List ℕ) → (opened_by code l h t a).outcome ≡ (opened_by code l h t' b).outcome
+    texts zero h t t' = rw (own (after (state_for l h) t) (after (state_for l h) t'))
+    texts (suc n) h t t' = outcome_by (suc n) l h t a b
+
+    by : (p : List ℕ) → outside (front + shortest_plain) (front + limit) (length p) ≡ false → front + shortest_plain ≤ length p → length p ≤ front + limit
+        → length p - front ≤ length a
+        → (open_result limit far l p a).outcome ≡ (open_result limit far l (take (front + shortest_plain) p) b).outcome
+    by [] fit low high enough = absurd (omega arith)
+    by (p₁ ∷ []) fit low high enough = absurd (omega arith)
+    by (p₁ ∷ p₂ ∷ []) fit low high enough = absurd (omega arith)
+    by (p₁ ∷ p₂ ∷ p₃ ∷ []) fit low high enough = absurd (omega arith)
+    by (p₁ ∷ p₂ ∷ p₃ ∷ p₄ ∷ []) fit low high enough = absurd (omega arith)
+    by (p₁ ∷ p₂ ∷ p₃ ∷ p₄ ∷ p₅ ∷ []) fit low high enough = absurd (omega arith)
+    by (p₁ ∷ p₂ ∷ p₃ ∷ p₄ ∷ p₅ ∷ p₆ ∷ rest) fit low high enough =
+        let cut : List ℕ = p₁ ∷ p₂ ∷ p₃ ∷ p₄ ∷ p₅ ∷ p₆ ∷ [] in
+        let fit' : outside (front + shortest_plain) (front + limit) (length cut) ≡ false = outside_none (front + shortest_plain) (front + limit) (length cut) (omega arith) (omega arith) in
+        let packet' : List ℕ = p₁ ∷ p₂ ∷ p₃ ∷ p₄ ∷ p₅ ∷ p₆ ∷ rest in
+        let h : ℕ = header_in packet' in
+        let same : open_code limit far l packet' (length a) ≡ open_code limit far l cut (length b) =
+        rw (fit, fit', le-ltb (length a) (length (data_in packet')) (omega arith), le-ltb (length b) 2 two) in
+        ap (λ c. (opened_by c l h (data_in packet') a).outcome) same ∙ texts (open_code limit far l cut (length b)) h (data_in packet') (data_in cut)

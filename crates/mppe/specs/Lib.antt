@@ -2,8 +2,3 @@
 pub mod Link
 -- What only private functions promise.
 pub mod Inner
--- Laws; what is claimed of whole runs stands in crates/mppe_runs.
-pub mod Laws
-pub mod Stateless
--- What a larger limit leaves as it was.
-pub mod Larger

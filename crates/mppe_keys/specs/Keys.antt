@@ -1,7 +1,7 @@
 -- MPPE's keys (RFC 3079, section 3; RFC 3078, section 7.3), as 01, "Keys", condenses them.
 use Rattle.std.specs.Prelude.{Bool, true, false, List, [], ◌∷◌, ◌++◌, ℕ, zero, suc, ◌-◌, eqb, length, take, drop, replicate}
 use Rattle.answer.specs.Answer.{pick}
-use Rattle.sha1.specs.Sha1.{sha1}
+use Rattle.sha_1.specs.Sha1.{sha1}
 use Rattle.rc4.specs.Cipher.{key_schedule, run}
 use Rattle.mppe_keys.specs.declared.Strength.{Strength}
 use Rattle.mppe_keys.specs.declared.Strength.TheVariants.{Bits40, Bits56, Bits128}

@@ -3,5 +3,3 @@ pub mod Keys
 pub mod Answers
 -- What only private functions promise.
 pub mod Inner
--- Laws.
-pub mod Laws

@@ -1,410 +1,588 @@
--- The ways out of a walk's functions, over plain lists and numbers.
-use mathlib.Core.Path.{◌≡◌, refl, sym, ap, ◌∙◌}
-use mathlib.Core.Bool.{Bool, true, false, not, ◌&&◌, ◌||◌, true≢false, false≢true}
-use mathlib.Core.List.{List, [], ◌∷◌, ◌++◌, append-nil}
-use Prim.Native.Nat.{ℕ, zero, suc, ◌+◌, ◌*◌, ◌-◌, ◌/◌, ◌%◌, ◌<◌, ◌≤◌}
-use native.Mathlib.Nat.{suc-ne-zero}
+-- The claim proved: a walk after some data is a function of the data, and every feed goes from one such walk to the next.
+use Rattle.std.specs.Prelude.{◌≡◌, ◌≢◌, Bool, not, ◌&&◌, ltb, take, drop, get_or}
+use Rattle.std.proofs.Math.Path.{refl, ap, sym}
+use Rattle.std.proofs.Common.{◌∙◌, true≢false, length-drop, drop-drop}
+use Rattle.std.proofs.Math.Bool.{true, false}
+use mathlib.Core.List.{List, [], ◌∷◌, ◌++◌, append_assoc, append-nil}
+use Prim.Native.Nat.{ℕ, zero, suc, ◌+◌, ◌*◌, ◌<◌, ◌≤◌}
+use Rattle.std.proofs.Math.Nat.{suc-ne-zero}
 use native.Mathlib.Omega.{arith}
-use lib.Bits.{bit_xor}
-use lib.Dec.{eqb, ltb, leb}
-use lib.ListN.{length, take, drop, get_or, set, drop_of_length-le, length-drop}
-use lib.Seq.{take_all, drop-drop, length-take-le}
-use borrow.Author.Tests.{lt-ltb, le-ltb, le-leb, lt-leb, ne_eqb, ltb-true, ltb-false, eqb-true, not-true, not-false}
-use borrow.Rule.Slice.PartMut.{put_mid}
-use Rattle.answer.specs.Answer.{done, shape, room, size, protocol, not_record, waiting, pick, outside, wrong, first_of, on_done}
-use Rattle.answer.specs.Laws.{both, clear, rows_pass, rows_stop, within}
-use Rattle.octets.specs.Octets.{pair_at, written, written_at, longest_text}
+use Rattle.std.proofs.Math.Dec.{eqb}
+use Rattle.std.proofs.Math.ListN.{length, length-append}
+use Rattle.std.proofs.Math.Seq.{take-append_seam, drop-append_seam}
+use borrow.Author.Tests.{ltb-true, ltb-false, lt-ltb, le-ltb, ne_eqb, eqb-true, not-false}
+use Rattle.answer.specs.Answer.{done, shape, room, size, protocol, late, not_record, waiting, pick, outside, first_of, on_done}
+use Rattle.answer.specs.Laws.{both, clear, rows_pass, rows_stop, rows_passed, within, right_length}
+use Rattle.octets.specs.Octets.{written, written_at}
 use Rattle.rc4.specs.declared.Rc4.{Rc4}
-use Rattle.rc4.specs.declared.Ran.{Ran}
-use Rattle.rc4.specs.declared.Drawn.{Drawn}
-use Rattle.rc4.specs.Cipher.{key_schedule, run, after}
-use Rattle.rc4.specs.Answers.{draw_answer, run_answer, run_out}
-use Rattle.rc4.specs.Laws.{run_done}
-use Rattle.mppe_keys.specs.Keys.{key_length, placed}
-use Rattle.mppe_keys.specs.Answers.{placed_changes, placed_cipher}
-use Rattle.mppe_keys.specs.Laws.{key_most, changes_length}
+use Rattle.rc4.specs.Cipher.{run, after}
+use Rattle.rc4.proofs.Laws.{run_length, run_cut, after_cut}
+use Rattle.mppe_keys.specs.Keys.{placed}
 use Rattle.mppe.specs.declared.Link.{Link}
-use Rattle.mppe.specs.declared.Judged.{Judged}
-use Rattle.mppe.specs.Link.{shortest_plain, longest_plain, front, farthest, well_formed, start_key_in, session_key_in, off_protocol, header_in, bit_a, lacks, changes_for, key_for, box_for, state_for, waited, judged_rows, judged}
-use Rattle.mppe.specs.Laws.{key_back}
+use Rattle.mppe.specs.Link.{shortest_plain, front, well_formed, off_protocol, header_in, changes_for, away_for, key_for, state_for, plain_for, link_after, waited, refusal, header_rows, data_rows, open_code, open_result, judged_rows}
+use Rattle.mppe.proofs.Laws.{changes_few, after_well, open_answers}
 use Rattle.mppe_pieces.specs.declared.Walk.{Walk}
-use Rattle.mppe_pieces.specs.declared.Step.{Step}
-use Rattle.mppe_pieces.specs.Walk.{over, over_with, on_with, begin_code, walk_of, begin_step, goes_on, opened, early, judged_off, feed_rows, feed_code, moved_on, walk_after, buffer_after, closes, feed_result, link_left, end_code, end_step}
+use Rattle.mppe_pieces.specs.Walk.{Fed, over, over_with, on_with, begin_rows, begin_code, walk_of, unbegun, begin_step, goes_on, opened, reached, early, judged_off, feed_code, walk_after, buffer_after, closes, feed_result, link_left, end_rows, end_code, end_step}
+use Rattle.mppe_pieces.specs.Pieces.{joined, Left, feed_all, walked, outcome_in, result_of, Pieces, Calls}
 
--- whether a walk goes on, test by test
-pub goes_dead : (live : Bool) (rest last : Bool) → live ≡ false → false ≡ (live && rest && last)
-goes_dead live rest last e = rw e
-
-pub goes_refused : (live : Bool) (code : ℕ) (last : Bool) → live ≡ true → (code ≡ done → ⊥) → false ≡ (live && eqb code done && last)
-goes_refused live code last e some = rw (e, ne_eqb code done some)
-
-pub goes_last : (live : Bool) (code total fed : ℕ) → live ≡ true → code ≡ done → leb fed total ≡ (live && eqb code done && not (ltb total fed))
-goes_last live code total fed e none = rw (e, none) (by (ltb total fed) refl)
-  where
-    by : (t : Bool) → ltb total fed ≡ t → leb fed total ≡ not t
-    by true h = lt-leb fed total (ltb-true total fed h)
-    by false h = le-leb fed total (ltb-false total fed h)
-
-pub goes_is : {j : Judged} {r : Bool} (w : Walk) → j ≡ judged longest_plain farthest w.link w.header w.total
-    → r ≡ (w.live && eqb j.answer done && not (ltb w.total w.fed)) → r ≡ goes_on longest_plain farthest w
-unfolding goes_on judged
-goes_is w ej e = e ∙ rw ej
-
--- what a walk that goes on has: a well-formed record, a total within its limits, and no more fed
-pub goes_within : (limit far : ℕ) (w : Walk) → goes_on limit far w ≡ true
-    → (well_formed w.link ≡ true) × (shortest_plain ≤ w.total) × (w.total ≤ limit) × (w.fed ≤ w.total)
-unfolding goes_on
-goes_within limit far w e =
-    let rows : List (ℕ × Bool) = judged_rows limit far w.link w.header w.total in
-    let (front, fed) = both (w.live && eqb (first_of rows) done) (not (ltb w.total w.fed)) e in
-    let none : first_of rows ≡ done = eqb-true (first_of rows) done (both w.live (eqb (first_of rows) done) front).1 in
-    let (low, high) = within shortest_plain limit w.total (clear shape rows refl none).0 in
-    (not-false (well_formed w.link) (clear not_record rows refl none).0, low, high, ltb-false w.total w.fed (not-true (ltb w.total w.fed) fed))
-
--- fewer than both protocol octets
-pub early_less : (fed more : ℕ) → fed < 2 → ltb more (2 - fed) ≡ early (fed + more)
-early_less fed more h = by (early (fed + more)) refl
-  where
-    by : (t : Bool) → ltb (fed + more) 2 ≡ t → ltb more (2 - fed) ≡ t
-    by true e = lt-ltb more (2 - fed) (omega (arith, ltb-true (fed + more) 2 e))
-    by false e = le-ltb more (2 - fed) (omega (arith, ltb-false (fed + more) 2 e))
-
-pub early_past : (fed more : ℕ) → 2 ≤ fed → false ≡ early (fed + more)
-early_past fed more h = sym (le-ltb (fed + more) 2 (omega arith))
-
-pub early_not : {e : Bool} (fed more : ℕ) → e ≡ early (fed + more) → e ≡ false → 2 ≤ fed + more
-early_not fed more e f = ltb-false (fed + more) 2 (sym e ∙ f)
-
--- the protocol number, judged by the piece that brings its second octet
-pub judged_past : (w : Walk) (piece : List ℕ) → 2 ≤ w.fed → false ≡ judged_off w piece
-judged_past w piece h = rw (le-ltb w.fed 2 h)
-
-pub judged_early : {e : Bool} (w : Walk) (piece : List ℕ) → w.fed < 2 → e ≡ early (w.fed + length piece) → e ≡ true → false ≡ judged_off w piece
-judged_early w piece h e t = rw (lt-ltb w.fed 2 h, ← e, t)
-
-pub judged_both : {e r : Bool} (w : Walk) (piece : List ℕ) → w.fed ≡ 0 → e ≡ early (w.fed + length piece) → e ≡ false
-    → r ≡ off_protocol (run w.state piece) → r ≡ judged_off w piece
-unfolding opened
-judged_both w piece z e f off = rw (← e, f, z) off
-
-pub judged_second : {e r : Bool} {d : Drawn} (w : Walk) (piece : List ℕ) → w.fed < 2 → (w.fed ≡ 0 → ⊥) → e ≡ early (w.fed + length piece) → e ≡ false
-    → d ≡ draw_answer w.state → r ≡ outside 0x0021 0x00FA (w.first * 256 + bit_xor (get_or piece 0 0) d.octet) → r ≡ judged_off w piece
-unfolding opened run
-judged_second w [] h some e f ed off = absurd (omega (arith, ltb-false (w.fed + 0) 2 (sym e ∙ f)))
-judged_second w (x ∷ xs) h some e f ed off =
-    let one : w.fed ≡ 1 = omega arith in
-    rw (← e, f, one) (off ∙ rw ed)
-
--- the first two octets of a text decide
-pub number_runs : {plain : List ℕ} {r : Bool} (s : Rc4) (text : List ℕ) → plain ≡ run_out s (take 2 text) (0 ∷ 0 ∷ [])
-    → r ≡ outside 0x0021 0x00FA (get_or plain 0 0 * 256 + get_or plain 1 0) → 2 ≤ length text → r ≡ off_protocol (run s text)
+-- a text that goes on behind its first two octets has the same protocol number
+same_protocol : (s : Rc4) (d p : List ℕ) → early (length d) ≡ false → off_protocol (run s (d ++ p)) ≡ off_protocol (run s d)
 unfolding run
-number_runs s [] e er h = absurd (omega arith)
-number_runs s (x ∷ []) e er h = absurd (omega arith)
-number_runs s (x ∷ y ∷ text) e er h =
-    er ∙ rw (e, (run_done s (x ∷ y ∷ []) (0 ∷ 0 ∷ []) (omega arith) (omega arith)).1)
+same_protocol s [] p e = absurd (true≢false e)
+same_protocol s (x ∷ []) p e = absurd (true≢false e)
+same_protocol s (x ∷ y ∷ d) p e = refl
 
--- what a feed that answers 0 had
-pub feed_bounds : {code : ℕ} (w : Walk) (piece : List ℕ) (lent : ℕ) → code ≡ feed_code longest_plain farthest w piece lent → code ≡ done
-    → (shortest_plain ≤ w.total) × (w.total ≤ longest_plain) × (w.total ≤ lent) × (w.fed + length piece ≤ w.total)
-unfolding feed_code
-feed_bounds w piece lent e z =
-    let rows : List (ℕ × Bool) = feed_rows longest_plain farthest w piece lent in
-    let zero = sym e ∙ z in
-    let (well, low, high, fed) = goes_within longest_plain farthest w (not-false (goes_on longest_plain farthest w) (clear not_record rows refl zero).0) in
-    (low, high, ltb-false lent w.total (clear room rows refl zero).0, ltb-false w.total (w.fed + length piece) (clear size rows refl zero).0)
+-- a result written behind another is both written together
+written_on : (a b out : List ℕ) → written_at (length a) b (written a out) ≡ written (a ++ b) out
+written_on a b out =
+    rw (take-append_seam a (drop (length a) out), drop-append_seam a (drop (length a) out), drop-drop (length b) (length a) out, length-append a b, append_assoc a b (drop (length a + length b) out))
 
--- a refused feed: 3 and 4 close the walk, any other number hands it back
-pub refused_closed : {r : Step} (code : ℕ) (w : Walk) → closes code ≡ true → r ≡ on_with code (over w.link) → r ≡ on_with code (pick (closes code) (over w.link) w)
-refused_closed code w e er = rw e er
+-- what holds of four octets holds of every list of that length
+four_octets : (P : List ℕ → Type 0) → ((a b c d : ℕ) → P (a ∷ b ∷ c ∷ d ∷ [])) → (four : List ℕ) → length four ≡ front → P four
+four_octets P all [] long = absurd (omega (arith, long))
+four_octets P all (a ∷ []) long = absurd (omega (arith, long))
+four_octets P all (a ∷ b ∷ []) long = absurd (omega (arith, long))
+four_octets P all (a ∷ b ∷ c ∷ []) long = absurd (omega (arith, long))
+four_octets P all (a ∷ b ∷ c ∷ d ∷ []) long = all a b c d
+four_octets P all (a ∷ b ∷ c ∷ d ∷ e ∷ more) long = absurd (omega (arith, long))
 
-pub refused_stays : (code : ℕ) (w : Walk) → (code ≡ size → ⊥) → (code ≡ protocol → ⊥) → on_with code w ≡ on_with code (pick (closes code) (over w.link) w)
-refused_stays code w a b = rw (ne_eqb code size a, ne_eqb code protocol b)
+module _ (limit far : ℕ) where
+  -- a feed by its number
+  step_is : (w : Walk) (p out : List ℕ) (code : ℕ) → feed_code limit far w p (length out) ≡ code
+      → feed_result limit far w p out
+      ≡ record { step = on_done code (on_with done (walk_after w p)) (on_with code (pick (closes code) (over w.link) w)); buffer = on_done code (buffer_after w p out) out }
+  unfolding feed_result
+  step_is w p out code e = rw e
 
--- a first octet that came alone
-pub lone_first : (fed first octet : ℕ) → fed ≡ 1 → first ≡ pick (eqb fed 1) first octet
-lone_first fed first octet e = rw e
+  -- a run of feeds by its first one
+  feed_one : (w : Walk) (out p : List ℕ) (ps : List (List ℕ)) (r : Fed) → feed_result limit far w p out ≡ r
+      → feed_all limit far w out (p ∷ ps) ≡ feed_all limit far r.step.walk r.buffer ps
+  unfolding feed_all
+  feed_one w out p ps r e = rw e
 
-pub lone_new : (fed first octet : ℕ) → (fed ≡ 1 → ⊥) → octet ≡ pick (eqb fed 1) first octet
-lone_new fed first octet e = rw (ne_eqb fed 1 e)
+  -- a walk that is over stays so
+  over_feed : (l : Link) (p out : List ℕ) → feed_result limit far (over l) p out ≡ record { step = on_with not_record (over l); buffer = out }
+  unfolding feed_result feed_code goes_on over
+  over_feed l p out = refl
 
-head_written : (s : Rc4) (piece : List ℕ) → get_or (written (run s piece) (0 ∷ [])) 0 0 ≡ get_or (run s piece) 0 0
-unfolding run
-head_written s [] = refl
-head_written s (x ∷ xs) = refl
+  over_all : (l : Link) (out : List ℕ) (ps : List (List ℕ)) → feed_all limit far (over l) out ps ≡ record { walk = over l; buffer = out }
+  unfolding feed_all
+  over_all l out [] = refl
+  over_all l out (p ∷ ps) = rw (over_feed l p out) (over_all l out ps)
 
-pub kept_is : {ran : Ran} {plain : List ℕ} {first : ℕ} {r : Step} (w : Walk) (piece : List ℕ) → w.fed + length piece < 2
-    → (ran ≡ run_answer w.state piece (0 ∷ [])) × (plain ≡ run_out w.state piece (0 ∷ [])) → first ≡ pick (eqb w.fed 1) w.first (get_or plain 0 0)
-    → r ≡ on_with done (moved_on w (w.fed + length piece) ran.state first) → r ≡ on_with done (walk_after w piece)
-unfolding opened
-kept_is w piece few (er, ep) ef e =
-    let (state_is, out-is) = run_done w.state piece (0 ∷ []) (omega arith) (omega arith) in
-    e ∙ rw (er, state_is, lt-ltb (w.fed + length piece) 2 few, ef, ep, out-is, head_written w.state piece, by (eqb w.fed 1))
-  where
-    by : (t : Bool) → pick t w.first (get_or (run w.state piece) 0 0) ≡ get_or (pick t (w.first ∷ []) [] ++ run w.state piece) 0 0
-    by true = refl
-    by false = refl
+  over_end : (l : Link) → end_step limit far (over l) ≡ on_with not_record (over l)
+  unfolding end_step end_code goes_on over
+  over_end l = refl
 
--- that octet put in front
-pub put_one : (fed first : ℕ) (out : List ℕ) → fed ≡ 1 → 1 ≤ length out → set out 0 first ≡ written (pick (eqb fed 1) (first ∷ []) []) out
-put_one fed first [] e h = absurd (omega arith)
-put_one fed first (x ∷ out) e h = rw e
+  over_dead : (l : Link) → (over l).live ≡ false
+  unfolding over
+  over_dead l = refl
 
-pub put_none : (fed first : ℕ) (out : List ℕ) → (fed ≡ 1 → ⊥) → out ≡ written (pick (eqb fed 1) (first ∷ []) []) out
-put_none fed first out e = rw (ne_eqb fed 1 e)
+  over_link : (l : Link) → (over l).link ≡ l
+  unfolding over
+  over_link l = refl
 
--- a refused feed leaves the buffer, and so does one that keeps what it opens
-pub feed_refused : {r : Step} (code : ℕ) (w : Walk) (piece out : List ℕ) → code ≡ feed_code longest_plain farthest w piece (length out) → (code ≡ done → ⊥)
-    → r ≡ on_with code (pick (closes code) (over w.link) w)
-    → (r ≡ (feed_result longest_plain farthest w piece out).step) × (out ≡ (feed_result longest_plain farthest w piece out).buffer)
-unfolding feed_result
-feed_refused zero w piece out e some er = absurd (some refl)
-feed_refused (suc n) w piece out e some er = rw (← e) (er, refl)
+  -- the walk of a packet with header h after data
+  module _ (l : Link) (h total : ℕ) where
+    abbrev state : Rc4
+    state = state_for l h
 
-pub feed_kept : {code : ℕ} {e : Bool} {r : Step} (w : Walk) (piece out : List ℕ) → code ≡ feed_code longest_plain farthest w piece (length out) → code ≡ done
-    → e ≡ early (w.fed + length piece) → e ≡ true → r ≡ on_with done (walk_after w piece)
-    → (r ≡ (feed_result longest_plain farthest w piece out).step) × (out ≡ (feed_result longest_plain farthest w piece out).buffer)
-unfolding feed_result
-feed_kept w piece out c z e t er =
-    let same : out ≡ buffer_after w piece out = rw (← e, t) in
-    rw (← c, z) (er, same)
+    abbrev walk_at : List ℕ → Walk
+    walk_at d =
+        record {
+          live = true;
+          link = l;
+          header = h;
+          session = placed (key_for l h);
+          state = after state d;
+          total = total;
+          fed = length d;
+          first = pick (early (length d)) (get_or (run state d) 0 0) 0;
+        }
 
--- a first octet put in front, and the rest behind it
-put_on : (fed first : ℕ) (text out : List ℕ)
-    → written_at fed text (written (pick (eqb fed 1) (first ∷ []) []) out) ≡ written_at (pick (early fed) 0 fed) (pick (eqb fed 1) (first ∷ []) [] ++ text) out
-put_on zero first text out = refl
-put_on (suc zero) first text out = rw (drop-drop (length text) 1 out, one_more (length text))
-  where
-    one_more : (n : ℕ) → 1 + n ≡ suc n
-    one_more n = omega arith
-put_on (suc (suc n)) first text out =
-    rw (ne_eqb (suc (suc n)) 1 (λ z. omega (arith, z)), le-ltb (suc (suc n)) 2 (omega arith))
+    abbrev buffer_at : List ℕ → List ℕ → List ℕ
+    buffer_at out d = pick (early (length d)) out (written (run state d) out)
 
--- what RC4 writes from a place on
-run_behind : {ys : List ℕ} (s : Rc4) (fed : ℕ) (piece out₁ : List ℕ) → ys ≡ run_out s piece (take (length out₁ - fed) (drop fed out₁))
-    → fed + length piece ≤ length out₁ → length piece ≤ longest_text → put_mid fed (length out₁ - fed) out₁ ys ≡ written_at fed (run s piece) out₁
-run_behind s fed piece out₁ ey fits short =
-    let long : length (drop fed out₁) ≡ length out₁ - fed = length-drop fed out₁ in
-    let part : take (length out₁ - fed) (drop fed out₁) ≡ drop fed out₁ = take_all (length out₁ - fed) (drop fed out₁) (omega arith) in
-    let rest : drop (length out₁ - fed) (drop fed out₁) ≡ [] = drop_of_length-le (drop fed out₁) {i = length out₁ - fed} (omega arith) in
-    rw (ey, part, rest, (run_done s piece (drop fed out₁) short (omega arith)).1, append-nil)
+    abbrev left_at : List ℕ → List ℕ → Left
+    left_at out d = record { walk = walk_at d; buffer = buffer_at out d }
 
--- the buffer with a first octet put is as long as before
-pub first_long : {out₁ : List ℕ} (fed first : ℕ) (out : List ℕ) → out₁ ≡ written (pick (eqb fed 1) (first ∷ []) []) out → 1 ≤ length out → length out₁ ≡ length out
-first_long fed first out e h = rw e (by (eqb fed 1) out h)
-  where
-    by : (t : Bool) (out : List ℕ) → 1 ≤ length out → length (written (pick t (first ∷ []) []) out) ≡ length out
-    by true [] h = absurd (omega arith)
-    by true (x ∷ out) h = refl
-    by false out h = refl
+    -- both protocol octets, once there, were judged
+    abbrev Carried : List ℕ → Type 0
+    Carried d = early (length d) ≡ false → off_protocol (run state d) ≡ false
 
--- a feed that writes
-pub feed_written : {code : ℕ} {e : Bool} {r : Step} {ran : Ran} {out₁ ys : List ℕ} (w : Walk) (piece out : List ℕ)
-    → code ≡ feed_code longest_plain farthest w piece (length out) → code ≡ done → e ≡ early (w.fed + length piece) → e ≡ false
-    → out₁ ≡ written (pick (eqb w.fed 1) (w.first ∷ []) []) out
-    → (ran ≡ run_answer w.state piece (take (length out₁ - w.fed) (drop w.fed out₁)))
-    × (ys ≡ run_out w.state piece (take (length out₁ - w.fed) (drop w.fed out₁)))
-    → r ≡ on_with done (moved_on w (w.fed + length piece) ran.state 0)
-    → (r ≡ (feed_result longest_plain farthest w piece out).step)
-    × (put_mid w.fed (length out₁ - w.fed) out₁ ys ≡ (feed_result longest_plain farthest w piece out).buffer)
-unfolding feed_result
-feed_written {r = r} {out₁ = out₁} w piece out c z e f eo (en, ey) er =
-    let (low, high, roomy, fits) = feed_bounds w piece (length out) c z in
-    let long = first_long w.fed w.first out eo (omega (arith, low, roomy)) in
-    let part : List ℕ = take (length out₁ - w.fed) (drop w.fed out₁) in
-    let part-long : length part ≡ length out₁ - w.fed =
-    length-take-le (length out₁ - w.fed) (drop w.fed out₁) (omega (arith, length-drop w.fed out₁)) in
-    let ran-is = run_done w.state piece part (omega (arith, high, fits)) (omega (arith, part-long, long, roomy, fits)) in
-    let walk_is : on_with done (moved_on w (w.fed + length piece) (after w.state piece) 0) ≡ on_with done (walk_after w piece) = rw (← e, f) in
-    let step_is : r ≡ on_with done (walk_after w piece) = er ∙ rw (en, ran-is.0) walk_is in
-    let mid = run_behind w.state w.fed piece out₁ ey (omega (arith, long, roomy, fits)) (omega (arith, high, fits)) in
-    let buffer-is : written_at (pick (early w.fed) 0 w.fed) (opened w piece) out ≡ buffer_after w piece out = rw (← e, f) in
-    let put : written_at w.fed (run w.state piece) out₁ ≡ written_at (pick (early w.fed) 0 w.fed) (opened w piece) out =
-    unfold opened in rw eo (put_on w.fed w.first (run w.state piece) out) in
-    rw (← c, z) (step_is, mid ∙ put ∙ buffer-is)
+    -- what a piece opens to, in front and behind
+    opened_front : (d p : List ℕ) → early (length d) ≡ true → opened (walk_at d) p ≡ run state (d ++ p)
+    unfolding opened run after
+    opened_front [] p e = refl
+    opened_front (x ∷ []) p e = refl
+    opened_front (x ∷ y ∷ d) p e = absurd (omega (arith, ltb-true (length (x ∷ y ∷ d)) 2 e))
 
--- an end: of a walk that does not go on, of one whose record would be ill formed, too early, and good
-pub end_dead : {r : Step} (w : Walk) → goes_on longest_plain farthest w ≡ false → r ≡ on_with not_record w → r ≡ end_step longest_plain farthest w
-unfolding end_step end_code
-end_dead w g er = rw g er
+    opened_behind : (d p : List ℕ) → early (length d) ≡ false → opened (walk_at d) p ≡ run (after state d) p
+    unfolding opened
+    opened_behind d p e = rw (ne_eqb (length d) 1 (λ z. omega (arith, ltb-false (length d) 2 e)))
 
-pub end_ill : {r : Step} {next : Link} (w : Walk) → goes_on longest_plain farthest w ≡ true → next ≡ link_left w → well_formed next ≡ false
-    → r ≡ on_with not_record w → r ≡ end_step longest_plain farthest w
-unfolding end_step end_code
-end_ill w g en ill er = rw (g, ← en, ill) er
+    late_stays : (d p : List ℕ) → early (length d) ≡ false → early (length (d ++ p)) ≡ false
+    late_stays d p e = le-ltb (length (d ++ p)) 2 (omega (arith, length-append d p, ltb-false (length d) 2 e))
 
-pub end_early : {r : Step} {next : Link} (w : Walk) → goes_on longest_plain farthest w ≡ true → next ≡ link_left w → well_formed next ≡ true → w.fed < w.total
-    → r ≡ on_with shape (over w.link) → r ≡ end_step longest_plain farthest w
-unfolding end_step end_code
-end_early w g en well few er = rw (g, ← en, well, lt-ltb w.fed w.total few) er
+    -- a piece that is taken: the walk and the buffer after it
+    first_next : (d p : List ℕ) (t : Bool) → early (length d) ≡ t
+        → pick (early (length (d ++ p))) (get_or (opened (walk_at d) p) 0 0) 0 ≡ pick (early (length (d ++ p))) (get_or (run state (d ++ p)) 0 0) 0
+    first_next d p true e = rw (opened_front d p e)
+    first_next d p false e = rw (late_stays d p e)
 
-pub end_good : {j : Judged} {next : Link} {ended : Walk} (w : Walk) → goes_on longest_plain farthest w ≡ true → next ≡ link_left w → well_formed next ≡ true
-    → w.total ≤ w.fed → j ≡ judged longest_plain farthest w.link w.header w.total → ended ≡ over next
-    → record { answer = done; changes = j.changes; walk = ended } ≡ end_step longest_plain farthest w
-unfolding end_step end_code judged
-end_good w g en well all ej ew =
-    let (whole, low, high, fed) = goes_within longest_plain farthest w g in
-    rw (g, ← en, well, le-ltb w.fed w.total all, ew, en, ej, whole)
+    walk_next : (d p : List ℕ) → walk_after (walk_at d) p ≡ walk_at (d ++ p)
+    walk_next d p = rw (← length-append d p, ← after_cut state d p, first_next d p (early (length d)) refl)
 
--- the session key and the box that a packet is opened with, and those of a record that waits
-pub key_made : {places : List ℕ} (l : Link) (h n : ℕ) → n ≡ changes_for l h → places ≡ placed_changes l.strength l.start l.session n → places ≡ placed (key_for l h)
-unfolding placed_changes key_for
-key_made l h n en e = e ∙ rw en
+    buffer_next : (out d p : List ℕ) (t : Bool) → early (length d) ≡ t → buffer_after (walk_at d) p (buffer_at out d) ≡ buffer_at out (d ++ p)
+    buffer_next out d p true e = rw (opened_front d p e, ← length-append d p, e)
+    buffer_next out d p false e =
+        let on : written_at (length d) (run (after state d) p) (written (run state d) out) ≡ written (run state (d ++ p)) out =
+        rw (← run_length state d, run_cut state d p) (written_on (run state d) (run (after state d) p) out) in
+        rw (opened_behind d p e, ← length-append d p, e, late_stays d p e) on
 
-keyed_with : {places : List ℕ} (l : Link) (h : ℕ) → length l.session ≡ 16 → places ≡ placed (key_for l h)
-    → placed_cipher l.strength places ≡ key_schedule (key_for l h)
-unfolding placed_cipher
-keyed_with l h full e = rw (e, key_back l.strength (key_for l h) long)
-  where
-    long : length (key_for l h) ≡ key_length l.strength
-    long = unfold key_for in
-        changes_length l.strength (start_key_in l) (changes_for l h) (session_key_in l)
-        (length-take-le (key_length l.strength) l.session (omega (arith, full, key_most l.strength)))
+    carried_next : (d p : List ℕ) → judged_off (walk_at d) p ≡ false → Carried d → Carried (d ++ p)
+    carried_next d p off was = by (early (length d)) refl
+      where
+        by : (t : Bool) → early (length d) ≡ t → Carried (d ++ p)
+        by true e = λ there. rw (opened_front d p e, ← length-append d p, e, there) at off
+        by false e = λ there. same_protocol state d p e ∙ was e
 
-pub state_made : {state : Rc4} {places : List ℕ} {fresh : Bool} (l : Link) (h n : ℕ) → length l.session ≡ 16 → n ≡ changes_for l h → places ≡ placed (key_for l h)
-    → fresh ≡ (not (eqb n 0) || not (lacks bit_a h)) → state ≡ pick fresh (placed_cipher l.strength places) l.state → state ≡ state_for l h
-unfolding state_for box_for
-state_made l h n full en ep ef es = es ∙ rw (ef, keyed_with l h full ep, ← en) (by n (lacks bit_a h))
-  where
-    by : (n : ℕ) (lacks_a : Bool)
-        → pick (not (eqb n 0) || not lacks_a) (key_schedule (key_for l h)) l.state
-        ≡ pick lacks_a (on_done n l.state (key_schedule (key_for l h))) (key_schedule (key_for l h))
-    by zero true = refl
-    by zero false = refl
-    by (suc n) true = rw (ne_eqb (suc n) 0 (suc-ne-zero n))
-    by (suc n) false = rw (ne_eqb (suc n) 0 (suc-ne-zero n))
+    -- the walk that a good begin gives has no data yet
+    walk_first : walk_of l h total ≡ walk_at []
+    unfolding walk_of after run
+    walk_first = refl
 
-pub box_made : {state : Rc4} {places : List ℕ} (l : Link) (h n : ℕ) → length l.session ≡ 16 → n ≡ changes_for l h → places ≡ placed (key_for l h)
-    → state ≡ pick (not (eqb n 0)) (placed_cipher l.strength places) l.state → state ≡ box_for l h
-unfolding box_for
-box_made l h n full en ep es = es ∙ rw (keyed_with l h full ep, ← en) (by n)
-  where
-    by : (n : ℕ) → pick (not (eqb n 0)) (key_schedule (key_for l h)) l.state ≡ on_done n l.state (key_schedule (key_for l h))
-    by zero = refl
-    by (suc n) = rw (ne_eqb (suc n) 0 (suc-ne-zero n))
+    -- what begin judged of the record, the header and the total
+    module _ (judged : first_of (judged_rows limit far l h total) ≡ done) where
+      abbrev rows : List (ℕ × Bool)
+      rows = judged_rows limit far l h total
 
--- a begin that answers 0, and one that answers 11
-pub begun_is : {session : List ℕ} {state : Rc4} (l : Link) (h total : ℕ) → session ≡ placed (key_for l h) → state ≡ state_for l h
-    → on_with done (record { live = true; link = l; header = h; session = session; state = state; total = total; fed = 0; first = 0 }) ≡ on_with done (walk_of l h total)
-unfolding walk_of
-begun_is l h total es ec = rw (es, ec)
+      two : 2 ≤ total
+      two = (within shortest_plain limit total (clear shape rows refl judged).0).0
 
-pub waiting_is : {n : ℕ} {session : List ℕ} {state : Rc4} {next : Link} {walk : Walk} (l : Link) (h : ℕ) → n ≡ changes_for l h → session ≡ placed (key_for l h)
-    → state ≡ box_for l h
-    → next ≡ record { strength = l.strength; mode = l.mode; start = l.start; session = session; count = h % 4096; state = state; waiting = true }
-    → walk ≡ over next → record { answer = waiting; changes = n; walk = walk } ≡ over_with (waited l h []).outcome
-waiting_is l h en es ec el ew = rw (ew, el, ec, es, en)
+      goes : (d : List ℕ) → length d ≤ total → goes_on limit far (walk_at d) ≡ true
+      unfolding goes_on
+      goes d fits = rw (judged, le-ltb total (length d) fits)
 
--- the number of a begin: a wrong front, one that the record and the header decide, and the room
-pub begin_front : {r : Step} {code : ℕ} {t : Bool} (l : Link) (four : List ℕ) (total lent : ℕ)
-    → t ≡ (wrong front four || not (eqb (pair_at 0 four) 0x00FD)) → t ≡ true → code ≡ pick (well_formed l) shape not_record → r ≡ on_with code (over l)
-    → r ≡ begin_step longest_plain farthest l four total lent
-unfolding begin_step begin_code
-begin_front {r} {code} l four total lent et t ec er =
-    by (well_formed l) (wrong front four) (not (eqb (pair_at 0 four) 0x00FD)) refl refl refl (sym et ∙ t) (er ∙ rw ec)
-  where
-    by : (well a b : Bool) → well_formed l ≡ well → wrong front four ≡ a → not (eqb (pair_at 0 four) 0x00FD) ≡ b → a || b ≡ true
-        → r ≡ on_with (pick well shape not_record) (over l) → r ≡ begin_step longest_plain farthest l four total lent
-    by false a b ew ea eb some e = rw ew e
-    by true true b ew ea eb some e = rw (ew, ea) e
-    by true false true ew ea eb some e = rw (ew, ea, eb) e
-    by true false false ew ea eb some e = absurd (false≢true some)
+      -- lent too little, nothing is fed
+      short_all : (out : List ℕ) (ps : List (List ℕ)) → length out < total → feed_all limit far (walk_at []) out ps ≡ record { walk = walk_at []; buffer = out }
+      unfolding feed_all
+      short_all out [] few = refl
+      short_all out (p ∷ ps) few =
+          let code : feed_code limit far (walk_at []) p (length out) ≡ room = unfold feed_code in rw (goes [] (omega arith), lt-ltb (length out) total few) in
+          rw (step_is (walk_at []) p out room code) (short_all out ps few)
 
--- a right front
-pub front_right : {t : Bool} (four : List ℕ) → t ≡ (wrong front four || not (eqb (pair_at 0 four) 0x00FD)) → t ≡ false
-    → (wrong front four ≡ false) × (not (eqb (pair_at 0 four) 0x00FD) ≡ false)
-front_right four et t = by (wrong front four) (not (eqb (pair_at 0 four) 0x00FD)) (sym et ∙ t)
-  where
-    by : (a b : Bool) → a || b ≡ false → (a ≡ false) × (b ≡ false)
-    by true b e = absurd (true≢false e)
-    by false b e = (refl, e)
+      -- the end of a walk after data
+      end_code_lem : (d : List ℕ) → length d ≤ total → end_code limit far (walk_at d) ≡ first_of ((shape, ltb (length d) total) ∷ [])
+      unfolding end_code
+      end_code_lem d fits = rw (goes d fits, after_well l h d (not-false (well_formed l) (clear not_record rows refl judged).0))
 
--- behind it the number is the one judged, and then that of the room
-begin_judged : (l : Link) (four : List ℕ) (total lent : ℕ) → wrong front four ≡ false → not (eqb (pair_at 0 four) 0x00FD) ≡ false
-    → begin_code longest_plain farthest l four total lent
-    ≡ first_of (judged_rows longest_plain farthest l (header_in four) total ++ (room, ltb lent total) ∷ [])
-unfolding begin_code
-begin_judged l four total lent ea eb = rw (ea, eb)
+      short_end : end_code limit far (walk_at []) ≡ shape
+      short_end = end_code_lem [] (omega arith) ∙ rw (lt-ltb 0 total (omega (arith, two)))
 
-module _ {t : Bool} {h : ℕ} {j : Judged} (l : Link) (four : List ℕ) (total lent : ℕ)
-    (et : t ≡ (wrong front four || not (eqb (pair_at 0 four) 0x00FD))) (right : t ≡ false) (eh : h ≡ header_in four)
-    (ej : j ≡ judged longest_plain farthest l h total) where
-  abbrev rows : List (ℕ × Bool)
-  rows = judged_rows longest_plain farthest l (header_in four) total
+      whole_end : (d : List ℕ) → length d ≡ total → end_code limit far (walk_at d) ≡ done
+      whole_end d long = end_code_lem d (omega (arith, long)) ∙ rw (le-ltb (length d) total (omega (arith, long)))
 
-  header_judged : j ≡ judged longest_plain farthest l (header_in four) total
-  header_judged = ej ∙ ap (λ (n : ℕ). judged longest_plain farthest l n total) eh
+      -- the buffer is as long as before, or longer
+      room_stays : (out d : List ℕ) (t : Bool) → early (length d) ≡ t → total ≤ length out → total ≤ length (buffer_at out d)
+      room_stays out d true e roomy = rw e roomy
+      room_stays out d false e roomy =
+          rw e (omega (arith, roomy, length-append (run state d) (drop (length (run state d)) out), length-drop (length (run state d)) out))
 
-  number : j.answer ≡ first_of rows
-  unfolding judged
-  number = ap (λ (x : Judged). x.answer) header_judged
+      -- a feed that is not refused by 7 or 2
+      feed_is : (out d p : List ℕ) → length d ≤ total → total ≤ length out
+          → feed_code limit far (walk_at d) p (length (buffer_at out d)) ≡ first_of ((size, ltb total (reached (walk_at d) p)) ∷ (protocol, judged_off (walk_at d) p) ∷ [])
+      unfolding feed_code
+      feed_is out d p fits roomy = rw (goes d fits, le-ltb (length (buffer_at out d)) total (room_stays out d (early (length d)) refl roomy))
 
-  code_is : begin_code longest_plain farthest l four total lent ≡ first_of (rows ++ (room, ltb lent total) ∷ [])
-  code_is = let (ea, eb) = front_right four et right in begin_judged l four total lent ea eb
+      -- what is to be shown of a walk's pieces: where it is live after them every one was taken
+      abbrev Taken : List ℕ → List ℕ → List (List ℕ) → Type 0
+      Taken out d ps =
+          length d ≤ total → Carried d → (feed_all limit far (walk_at d) (buffer_at out d) ps).walk.live ≡ true
+          → (feed_all limit far (walk_at d) (buffer_at out d) ps ≡ left_at out (d ++ joined ps)) × (length (d ++ joined ps) ≤ total) × Carried (d ++ joined ps)
 
-  -- a number of the record and the header
-  stopped : (j.answer ≡ done → ⊥) → begin_code longest_plain farthest l four total lent ≡ j.answer
-  stopped some = code_is ∙ rows_stop rows ((room, ltb lent total) ∷ []) (λ z. some (number ∙ z)) ∙ sym number
+      -- a feed that closes the walk
+      closed_ends : (out d p : List ℕ) (ps : List (List ℕ)) (code : ℕ) → closes code ≡ true → on_done {A = Bool} code true false ≡ false
+          → feed_code limit far (walk_at d) p (length (buffer_at out d)) ≡ code
+          → (feed_all limit far (walk_at d) (buffer_at out d) (p ∷ ps)).walk.live ≡ false
+      closed_ends out d p ps zero shuts some e = absurd (true≢false some)
+      closed_ends out d p ps (suc n) shuts some e =
+          let one : feed_result limit far (walk_at d) p (buffer_at out d) ≡ record { step = on_with (suc n) (over l); buffer = buffer_at out d } =
+          step_is (walk_at d) p (buffer_at out d) (suc n) e ∙ rw shuts in
+          rw (feed_one (walk_at d) (buffer_at out d) p ps _ one, over_all l (buffer_at out d) ps) (over_dead l)
 
-  pub begin_refused : {r : Step} → (j.answer ≡ waiting → ⊥) → (j.answer ≡ done → ⊥) → r ≡ on_with j.answer (over l)
-      → r ≡ begin_step longest_plain farthest l four total lent
-  unfolding begin_step
-  begin_refused {r} here some er = by j.answer (stopped some) here some er
+      -- a piece that is taken
+      taken : (out d p : List ℕ) → total ≤ length out → length d ≤ total → ltb total (reached (walk_at d) p) ≡ false → judged_off (walk_at d) p ≡ false
+          → feed_result limit far (walk_at d) p (buffer_at out d) ≡ record { step = on_with done (walk_at (d ++ p)); buffer = buffer_at out (d ++ p) }
+      taken out d p roomy fits ea eb =
+          step_is (walk_at d) p (buffer_at out d) done (feed_is out d p fits roomy ∙ rw (ea, eb))
+          ∙ rw (walk_next d p, buffer_next out d p (early (length d)) refl)
+
+      take_piece : (out d p : List ℕ) (ps : List (List ℕ)) → total ≤ length out → Taken out (d ++ p) ps
+          → (a b : Bool) → ltb total (reached (walk_at d) p) ≡ a → judged_off (walk_at d) p ≡ b → Taken out d (p ∷ ps)
+      unfolding joined
+      take_piece out d p ps roomy ih true b ea eb fits carried good =
+          let code : feed_code limit far (walk_at d) p (length (buffer_at out d)) ≡ size = feed_is out d p fits roomy ∙ rw ea in
+          absurd (true≢false (sym good ∙ closed_ends out d p ps size refl refl code))
+      take_piece out d p ps roomy ih false true ea eb fits carried good =
+          let code : feed_code limit far (walk_at d) p (length (buffer_at out d)) ≡ protocol = feed_is out d p fits roomy ∙ rw (ea, eb) in
+          absurd (true≢false (sym good ∙ closed_ends out d p ps protocol refl refl code))
+      take_piece out d p ps roomy ih false false ea eb fits carried good =
+          let on = feed_one (walk_at d) (buffer_at out d) p ps _ (taken out d p roomy fits ea eb) in
+          rw (on, ← append_assoc d p (joined ps))
+          (ih (omega (arith, length-append d p, ltb-false total (reached (walk_at d) p) ea)) (carried_next d p eb carried) (rw on at good))
+
+      -- all pieces of a walk that is live after them were taken
+      all_fed : (out d : List ℕ) (ps : List (List ℕ)) → total ≤ length out → Taken out d ps
+      unfolding feed_all joined
+      all_fed out d [] roomy fits carried good = rw (append-nil d) (refl, fits, carried)
+      all_fed out d (p ∷ ps) roomy fits carried good =
+          take_piece out d p ps roomy (all_fed out (d ++ p) ps roomy) (ltb total (reached (walk_at d) p)) (judged_off (walk_at d) p) refl refl fits carried good
+
+      -- a piece within data whose protocol number is carried
+      not_off : (d p rest : List ℕ) → off_protocol (run state (d ++ p ++ rest)) ≡ false → (t u : Bool) → early (length d) ≡ t → early (length (d ++ p)) ≡ u
+          → judged_off (walk_at d) p ≡ false
+      not_off d p rest carried false u e there = rw e
+      not_off d p rest carried true true e there = rw (← length-append d p, e, there)
+      not_off d p rest carried true false e there =
+          rw (opened_front d p e, ← length-append d p, e, there) (sym (same_protocol state (d ++ p) rest there) ∙ carried)
+
+      -- and all pieces of such data are
+      all_taken : (out d : List ℕ) (ps : List (List ℕ)) → total ≤ length out → length (d ++ joined ps) ≡ total → off_protocol (run state (d ++ joined ps)) ≡ false
+          → feed_all limit far (walk_at d) (buffer_at out d) ps ≡ left_at out (d ++ joined ps)
+      unfolding joined feed_all
+      all_taken out d [] roomy long carried = rw (append-nil d)
+      all_taken out d (p ∷ ps) roomy long carried =
+          let same : d ++ p ++ joined ps ≡ d ++ (p ++ joined ps) = append_assoc d p (joined ps) in
+          let carried₂ : off_protocol (run state (d ++ p ++ joined ps)) ≡ false = rw same carried in
+          let long₂ : length (d ++ p ++ joined ps) ≡ total = rw same long in
+          let fits : length d + length p ≤ total = omega (arith, long₂, length-append (d ++ p) (joined ps), length-append d p) in
+          let one : feed_result limit far (walk_at d) p (buffer_at out d) ≡ record { step = on_with done (walk_at (d ++ p)); buffer = buffer_at out (d ++ p) } =
+          taken out d p roomy (omega arith) (le-ltb total (length d + length p) fits) (not_off d p (joined ps) carried₂ (early (length d)) (early (length (d ++ p))) refl refl) in
+          rw (feed_one (walk_at d) (buffer_at out d) p ps _ one, ← same) (all_taken out (d ++ p) ps roomy long₂ carried₂)
+
+  -- an end, by its number
+  end_is : (w : Walk) → end_code limit far w ≡ done → end_step limit far w ≡ over_with (record { answer = done; changes = changes_for w.link w.header; link = link_left w })
+  unfolding end_step
+  end_is w e = rw e
+
+  -- a walk that ends well goes on, would leave a well-formed record, and all of its data are fed
+  end_had : (w : Walk) → end_code limit far w ≡ done → (goes_on limit far w ≡ true) × (well_formed (link_left w) ≡ true) × (w.total ≤ w.fed)
+  unfolding end_code
+  end_had w e =
+      let rows : List (ℕ × Bool) = end_rows limit far w in
+      let ill = clear not_record rows refl e in
+      (not-false (goes_on limit far w) ill.0, not-false (well_formed (link_left w)) ill.1.0, ltb-false w.fed w.total (clear shape rows refl e).0)
+
+  goes_live : (w : Walk) → goes_on limit far w ≡ true → w.live ≡ true
+  unfolding goes_on
+  goes_live w e = (both w.live _ (both (w.live && _) _ e).0).0
+
+  end_done : (w : Walk) → (end_step limit far w).answer ≡ done → end_code limit far w ≡ done
+  unfolding end_step
+  end_done w good = by (end_code limit far w) good
     where
-      by : (n : ℕ) → begin_code longest_plain farthest l four total lent ≡ n → (n ≡ waiting → ⊥) → (n ≡ done → ⊥) → r ≡ on_with n (over l)
-          → r ≡ begin_step longest_plain farthest l four total lent
-      by zero e here some er = absurd (some refl)
-      by (suc n) e here some er = er ∙ rw (e, ne_eqb (suc n) waiting here)
+      by : (code : ℕ) → (on_done code (over_with (record { answer = done; changes = changes_for w.link w.header; link = link_left w })) (on_with code (pick (eqb code shape) (over w.link) w))).answer ≡ done → code ≡ done
+      by zero e = refl
+      by (suc n) e = e
 
-  -- what a header that is judged brings
-  pub begin_changes : (j.answer ≡ not_record → ⊥) → j.changes ≡ changes_for l h
-  unfolding judged
-  begin_changes some = ap (λ (x : Judged). x.changes) ej ∙ by (well_formed l) refl
+  -- and so is the walk of a run that ends well
+  ended_live : (l : Link) (four : List ℕ) (total lent : ℕ) (out : List ℕ) (ps : List (List ℕ)) → (walked limit far l four total lent out ps).step.answer ≡ done
+      → (feed_all limit far (begin_step limit far l four total lent).walk out ps).walk.live ≡ true
+  unfolding walked
+  ended_live l four total lent out ps good =
+      let w : Walk = (feed_all limit far (begin_step limit far l four total lent).walk out ps).walk in
+      goes_live w (end_had w (end_done w good)).0
+
+  -- a run of calls, from what the feeds leave
+  walked_left : (l : Link) (four : List ℕ) (total lent : ℕ) (out : List ℕ) (pieces : List (List ℕ)) (r : Left)
+      → begin_code limit far l four total lent ≡ done → feed_all limit far (walk_at l (header_in four) total []) out pieces ≡ r
+      → walked limit far l four total lent out pieces ≡ record { step = end_step limit far r.walk; buffer = r.buffer }
+  unfolding walked begin_step
+  walked_left l four total lent out pieces r code e = rw (code, walk_first l (header_in four) total, e)
+
+  -- open's number, by begin's rows and 4
+  module _ (l : Link) (a b c d : ℕ) where
+    abbrev four : List ℕ
+    four = a ∷ b ∷ c ∷ d ∷ []
+
+    abbrev h : ℕ
+    h = header_in four
+
+    four_more : (m n : ℕ) (t : Bool) → ltb m n ≡ t → ltb (4 + m) (4 + n) ≡ t
+    four_more m n true e = lt-ltb (4 + m) (4 + n) (omega (arith, ltb-true m n e))
+    four_more m n false e = le-ltb (4 + m) (4 + n) (omega (arith, ltb-false m n e))
+
+    either_shape : (s t : Bool) (rest : ℕ) → pick s shape (pick t shape rest) ≡ pick t shape (pick s shape rest)
+    either_shape true true rest = refl
+    either_shape true false rest = refl
+    either_shape false t rest = refl
+
+    begin_open : (text : List ℕ) (lent : ℕ)
+        → open_code limit far l (four ++ text) lent ≡ first_of (begin_rows limit far l four (length text) lent ++ (protocol, off_protocol (plain_for l h text)) ∷ [])
+    unfolding open_code
+    begin_open text lent =
+        let n : ℕ = length text in
+        let rest : ℕ = first_of (header_rows far l h ++ data_rows l h text lent) in
+        let long : length (four ++ text) ≡ front + n = omega arith in
+        let size_is : outside (front + shortest_plain) (front + limit) (length (four ++ text)) ≡ outside shortest_plain limit n =
+        ap (λ (m : ℕ). outside (front + shortest_plain) (front + limit) m) long
+        ∙ ap (λ (t : Bool). pick t true (ltb (front + limit) (front + n))) (four_more n shortest_plain (ltb n shortest_plain) refl)
+        ∙ ap (λ (t : Bool). pick (ltb n shortest_plain) true t) (four_more limit n (ltb limit n) refl) in
+        rw size_is (ap (λ (m : ℕ). pick (not (well_formed l)) not_record m) (either_shape (outside shortest_plain limit n) (not (eqb (a * 256 + b) 0x00FD)) rest))
+
+    -- what begin refuses
+    begin_refuses : (text out : List ℕ) (code : ℕ) → begin_code limit far l four (length text) (length out) ≡ code
+        → (begin_step limit far l four (length text) (length out)).answer ≢ done
+        → (open_result limit far l (four ++ text) out ≡ record { outcome = outcome_in (begin_step limit far l four (length text) (length out)); buffer = out })
+        × ((begin_step limit far l four (length text) (length out)).walk ≡ over (begin_step limit far l four (length text) (length out)).walk.link)
+    unfolding begin_step open_result over
+    begin_refuses text out zero e some = absurd (some (rw e))
+    begin_refuses text out (suc n) e some =
+        let rows = begin_rows limit far l four (length text) (length out) in
+        let off : List (ℕ × Bool) = (protocol, off_protocol (plain_for l h text)) ∷ [] in
+        let stop : first_of rows ≡ suc n = unfold begin_code in e in
+        let same : open_code limit far l (four ++ text) (length out) ≡ suc n =
+        begin_open text (length out) ∙ rows_stop rows off (λ z. suc-ne-zero n (sym stop ∙ z)) ∙ stop in
+        rw (e, same) (by (eqb (suc n) waiting), refl)
+      where
+        by : (t : Bool)
+            → pick t (waited l h out) (refusal (suc n) l out)
+            ≡ record { outcome = outcome_in (over_with (pick t (waited l h []).outcome (refusal (suc n) l []).outcome)); buffer = out }
+        by true = refl
+        by false = refl
+
+    -- after a good begin
+    module _ (total lent : ℕ) (out : List ℕ) (pieces : List (List ℕ)) (code : begin_code limit far l four total lent ≡ done) where
+      -- no row but that of the room is asked for the room, and these do not apply
+      abbrev roomless : List (ℕ × Bool)
+      roomless = take 9 (begin_rows limit far l four total lent)
+
+      passed : first_of roomless ≡ done
+      passed = rows_passed done roomless ((room, ltb lent total) ∷ []) refl (unfold begin_code in code)
+
+      judged : first_of (judged_rows limit far l h total) ≡ done
+      judged = rw (clear shape roomless refl passed).1.0 at passed
+
+      abbrev feeds : Left
+      feeds = feed_all limit far (walk_at l h total []) out pieces
+
+      -- with data of that length, whose protocol number is carried, open gives what the walk does
+      open_is : (text : List ℕ) → total ≤ length out → length text ≡ total → Carried l h total text
+          → open_result limit far l (four ++ text) out
+          ≡ record { outcome = record { answer = done; changes = changes_for l h; link = link_after l h text }; buffer = buffer_at l h total out text }
+      unfolding open_result plain_for
+      open_is text roomy same carried =
+          let whole : early (length text) ≡ false = le-ltb (length text) 2 (omega (arith, same, two l h total judged)) in
+          let rows : List (ℕ × Bool) = begin_rows limit far l four (length text) (length out) in
+          let off : List (ℕ × Bool) = (protocol, off_protocol (plain_for l h text)) ∷ [] in
+          let here : List (ℕ × Bool) = begin_rows limit far l four total (length out) in
+          let begun : first_of rows ≡ done = rw same (rows_pass (take 9 here) (drop 9 here) refl passed ∙ rw (le-ltb (length out) total roomy)) in
+          let code' : open_code limit far l (four ++ text) (length out) ≡ done = begin_open text (length out) ∙ rows_pass rows off refl begun ∙ rw (carried whole) in
+          rw (code', whole)
+
+      -- a good end
+      equal_four : (t : Bool) → ltb (length out) total ≡ t → (walked limit far l four total lent out pieces).step.answer ≡ done
+          → result_of (walked limit far l four total lent out pieces) ≡ open_result limit far l (four ++ joined pieces) out
+      equal_four true short good =
+          let left = walked_left l four total lent out pieces _ code (short_all l h total judged out pieces (ltb-true (length out) total short)) in
+          absurd (suc-ne-zero 0 (sym (short_end l h total judged) ∙ end_done (walk_at l h total []) (rw left at good)))
+      equal_four false roomy good =
+          let ends : end_code limit far feeds.walk ≡ done = end_done feeds.walk (rw (walked_left l four total lent out pieces feeds code refl) at good) in
+          let fits : total ≤ length out = ltb-false (length out) total roomy in
+          let (goes_on, well, all) = end_had feeds.walk ends in
+          let (same, short, carried) = all_fed l h total judged out [] pieces fits (omega arith) (λ e. absurd (true≢false e)) (goes_live feeds.walk goes_on) in
+          let text : List ℕ = joined pieces in
+          let last : end_code limit far (walk_at l h total text) ≡ done = rw same at ends in
+          let long : length text ≡ total = omega (arith, short, (end_had (walk_at l h total text) last).2) in
+          rw (walked_left l four total lent out pieces _ code same, end_is (walk_at l h total text) last, over_link (link_after l h text))
+          (sym (open_is text fits long carried))
+
+      -- as long as the walk is live
+      so_far_four : total ≤ length out → (feed_all limit far (begin_step limit far l four total lent).walk out pieces).walk.live ≡ true
+          → ((feed_all limit far (begin_step limit far l four total lent).walk out pieces).walk.fed ≡ length (joined pieces))
+          × ((feed_all limit far (begin_step limit far l four total lent).walk out pieces).buffer
+          ≡ pick (early (length (joined pieces))) out (written (plain_for l h (joined pieces)) out))
+      unfolding plain_for
+      so_far_four fits live =
+          let first : (begin_step limit far l four total lent).walk ≡ walk_at l h total [] = unfold begin_step in rw code (walk_first l h total) in
+          let (same, short, carried) = all_fed l h total judged out [] pieces fits (omega arith) (λ e. absurd (true≢false e)) (rw first at live) in
+          rw (first, same) (refl, refl)
+
+    -- what one call opens, every cutting opens
+    open_done : (packet out : List ℕ) → (open_result limit far l packet out).outcome.answer ≡ done → open_code limit far l packet (length out) ≡ done
+    open_done packet out good = sym (open_answers limit far l packet out) ∙ good
+
+    opens_four : (out : List ℕ) (pieces : List (List ℕ)) → (open_result limit far l (four ++ joined pieces) out).outcome.answer ≡ done
+        → ((begin_step limit far l four (length (joined pieces)) (length out)).answer ≡ done)
+        × ((walked limit far l four (length (joined pieces)) (length out) out pieces).step.answer ≡ done)
+    unfolding begin_step begin_code plain_for
+    opens_four out pieces good =
+        let text : List ℕ = joined pieces in
+        let total : ℕ = length text in
+        let rows : List (ℕ × Bool) = begin_rows limit far l four total (length out) in
+        let off : List (ℕ × Bool) = (protocol, off_protocol (plain_for l h text)) ∷ [] in
+        let none : first_of (rows ++ off) ≡ done = sym (begin_open text (length out)) ∙ open_done (four ++ text) out good in
+        let begun : first_of rows ≡ done = rows_passed done rows off refl none in
+        let code : begin_code limit far l four total (length out) ≡ done = begun in
+        let roomy : total ≤ length out = ltb-false (length out) total (clear room rows refl begun).0 in
+        let carried : off_protocol (run (state_for l h) text) ≡ false = (clear protocol (rows ++ off) refl none).0 in
+        let can = judged total (length out) out pieces code in
+        let left = all_taken l h total can out [] pieces roomy refl carried in
+        (rw code, rw (walked_left l four total (length out) out pieces _ code left, end_is (walk_at l h total text) (whole_end l h total can text refl)))
+
+  -- another length than four is refused
+  four_long : (l : Link) (four : List ℕ) (total lent : ℕ) → begin_code limit far l four total lent ≡ done → length four ≡ front
+  unfolding begin_code
+  four_long l four total lent code = right_length front four (clear shape (begin_rows limit far l four total lent) refl code).0
+
+  -- a walk that is live after its feeds had a good begin
+  live_begun : (l : Link) (four : List ℕ) (total lent : ℕ) (out : List ℕ) (ps : List (List ℕ))
+      → (feed_all limit far (begin_step limit far l four total lent).walk out ps).walk.live ≡ true → begin_code limit far l four total lent ≡ done
+  unfolding begin_step
+  live_begun l four total lent out ps live = by (begin_code limit far l four total lent) refl
     where
-      by : (well : Bool) → well_formed l ≡ well → pick well (changes_for l h) 0 ≡ changes_for l h
-      by true e = refl
-      by false e = absurd (some (number ∙ rw e))
+      by : (code : ℕ) → begin_code limit far l four total lent ≡ code → code ≡ done
+      by zero e = refl
+      by (suc n) e =
+          let closed : Link = (unbegun (suc n) l (header_in four)).link in
+          absurd (true≢false (sym (rw (e, over_all closed out ps) at live) ∙ over_dead closed))
 
-  pub begin_waits : {r : Step} → j.answer ≡ waiting → r ≡ over_with (waited l h []).outcome → r ≡ begin_step longest_plain farthest l four total lent
-  unfolding begin_step
-  begin_waits z er =
-      let code : begin_code longest_plain farthest l four total lent ≡ waiting = stopped (λ q. omega (arith, q, z)) ∙ z in
-      er ∙ rw (code, eh)
+  -- what stays: after a begin but for 11, after a feed, after a feed and an end that are refused
+  begun_kept : (l : Link) (four : List ℕ) (total lent code : ℕ) → begin_code limit far l four total lent ≡ code → (begin_step limit far l four total lent).answer ≢ waiting
+      → ((begin_step limit far l four total lent).walk.link ≡ l) × ((begin_step limit far l four total lent).changes ≡ 0)
+  unfolding begin_step walk_of over
+  begun_kept l four total lent zero e other = rw e (refl, refl)
+  begun_kept l four total lent (suc n) e other = rw e (by (eqb (suc n) waiting) refl)
+    where
+      by : (t : Bool) → eqb (suc n) waiting ≡ t
+          → ((pick t (waited l (header_in four) []).outcome (refusal (suc n) l []).outcome).link ≡ l)
+          × ((pick t (waited l (header_in four) []).outcome (refusal (suc n) l []).outcome).changes ≡ 0)
+      by true f = absurd (other (rw (e, f)))
+      by false f = (refl, refl)
 
-  -- and what it then has: a total within its limits
-  pub begin_total : j.answer ≡ done → total ≤ longest_plain
-  begin_total z = (within shortest_plain longest_plain total (clear shape rows refl (sym number ∙ z)).0).1
+  begun_closed : (l : Link) (four : List ℕ) (total lent code : ℕ) → begin_code limit far l four total lent ≡ code → (begin_step limit far l four total lent).answer ≢ done
+      → (begin_step limit far l four total lent).walk ≡ over (begin_step limit far l four total lent).walk.link
+  unfolding begin_step over
+  begun_closed l four total lent zero e some = absurd (some (rw e))
+  begun_closed l four total lent (suc n) e some = rw e
 
-  passed : j.answer ≡ done → begin_code longest_plain farthest l four total lent ≡ first_of ((room, ltb lent total) ∷ [])
-  passed z = code_is ∙ rows_pass rows ((room, ltb lent total) ∷ []) refl (sym number ∙ z)
+  picked_link : (w : Walk) (t : Bool) → (pick t (over w.link) w).link ≡ w.link
+  picked_link w true = over_link w.link
+  picked_link w false = refl
 
-  pub begin_room : {r : Step} → j.answer ≡ done → lent < total → r ≡ on_with room (over l) → r ≡ begin_step longest_plain farthest l four total lent
-  unfolding begin_step
-  begin_room z few er =
-      let code : begin_code longest_plain farthest l four total lent ≡ room = passed z ∙ rw (lt-ltb lent total few) in
-      er ∙ rw code
+  fed_kept : (w : Walk) (piece out : List ℕ) (code : ℕ) → feed_code limit far w piece (length out) ≡ code
+      → ((feed_result limit far w piece out).step.walk.link ≡ w.link) × ((feed_result limit far w piece out).step.changes ≡ 0)
+  unfolding feed_result
+  fed_kept w piece out zero e = rw e (refl, refl)
+  fed_kept w piece out (suc n) e = rw e (picked_link w (closes (suc n)), refl)
 
-  pub begin_done : {r : Step} → j.answer ≡ done → total ≤ lent → r ≡ on_with done (walk_of l h total) → r ≡ begin_step longest_plain farthest l four total lent
-  unfolding begin_step
-  begin_done z roomy er =
-      let code : begin_code longest_plain farthest l four total lent ≡ done = passed z ∙ rw (le-ltb lent total roomy) in
-      er ∙ rw (code, eh)
+  fed_refused : (w : Walk) (piece out : List ℕ) (code : ℕ) → feed_code limit far w piece (length out) ≡ code → (feed_result limit far w piece out).step.answer ≢ done
+      → ((feed_result limit far w piece out).buffer ≡ out)
+      × ((feed_result limit far w piece out).step.walk ≡ pick (closes (feed_result limit far w piece out).step.answer) (over w.link) w)
+  unfolding feed_result
+  fed_refused w piece out zero e some = absurd (some (rw e))
+  fed_refused w piece out (suc n) e some = rw e (refl, refl)
 
--- a packet is opened with a box keyed afresh: after a key change, or by bit A
-pub afresh_changed : (h n : ℕ) → (n ≡ 0 → ⊥) → true ≡ (not (eqb n 0) || not (lacks bit_a h))
-afresh_changed h n some = rw (ne_eqb n 0 some)
+  end_refused : (w : Walk) (code : ℕ) → end_code limit far w ≡ code → (end_step limit far w).answer ≢ done
+      → ((end_step limit far w).walk ≡ pick (eqb (end_step limit far w).answer shape) (over w.link) w) × ((end_step limit far w).changes ≡ 0)
+  unfolding end_step
+  end_refused w zero e some = absurd (some (rw e))
+  end_refused w (suc n) e some = rw e (refl, refl)
 
-pub afresh_flagged : (h n : ℕ) → n ≡ 0 → not (eqb (h / bit_a % 2) 0) ≡ (not (eqb n 0) || not (lacks bit_a h))
-afresh_flagged h n none = rw none
+  -- a good end
+  end_good : (w : Walk) → (end_step limit far w).answer ≡ done
+      → ((end_step limit far w).walk ≡ over (end_step limit far w).walk.link) × (well_formed (end_step limit far w).walk.link ≡ true)
+      × ((end_step limit far w).changes ≤ far)
+  unfolding over
+  end_good w good =
+      let code = end_done w good in
+      let (goes_on, well, all) = end_had w code in
+      rw (end_is w code, over_link (link_left w)) (refl, well, few goes_on)
+    where
+      few : goes_on limit far w ≡ true → changes_for w.link w.header ≤ far
+      few e = unfold goes_on in
+          let rows : List (ℕ × Bool) = judged_rows limit far w.link w.header w.total in
+          let none : first_of rows ≡ done = eqb-true (first_of rows) done (both w.live (eqb (first_of rows) done) (both (w.live && eqb (first_of rows) done) _ e).0).1 in
+          omega (arith, ltb-false far (away_for w.link w.header) (clear late rows refl none).0, changes_few w.link.mode w.link.count (away_for w.link w.header))
 
--- the number for a wrong front
-pub front_code_lem : {r : Bool} (well t : Bool) → r ≡ well → r ≡ t → pick t shape not_record ≡ pick well shape not_record
-front_code_lem well t e h = rw (← e, h)
+  -- the record of a run of feeds, and of one that does not end well
+  run_kept : (w : Walk) (out : List ℕ) (ps : List (List ℕ)) → (feed_all limit far w out ps).walk.link ≡ w.link
+  unfolding feed_all
+  run_kept w out [] = refl
+  run_kept w out (p ∷ ps) =
+      let r : Fed = feed_result limit far w p out in
+      run_kept r.step.walk r.buffer ps ∙ (fed_kept w p out (feed_code limit far w p (length out)) refl).0
 
--- a front of another length, and one of another number
-pub front_size : (four : List ℕ) → (length four ≡ 4 → ⊥) → true ≡ (wrong front four || not (eqb (pair_at 0 four) 0x00FD))
-front_size four n = rw (ne_eqb (length four) 4 n)
+  unended_kept : (l : Link) (four : List ℕ) (total lent : ℕ) (out : List ℕ) (pieces : List (List ℕ))
+      → (begin_step limit far l four total lent).answer ≢ waiting → (walked limit far l four total lent out pieces).step.answer ≢ done
+      → ((walked limit far l four total lent out pieces).step.walk.link ≡ l) × ((walked limit far l four total lent out pieces).step.changes ≡ 0)
+  unfolding walked
+  unended_kept l four total lent out pieces other some =
+      let w : Walk = (begin_step limit far l four total lent).walk in
+      let v : Walk = (feed_all limit far w out pieces).walk in
+      let (same, none) = end_refused v (end_code limit far v) refl some in
+      let back : v.link ≡ l = run_kept w out pieces ∙ (begun_kept l four total lent (begin_code limit far l four total lent) refl other).0 in
+      (ap (λ (x : Walk). x.link) same ∙ picked_link v (eqb (end_step limit far v).answer shape) ∙ back, none)
 
-pub front_number : {p : ℕ} (four : List ℕ) → length four ≡ 4 → p ≡ pair_at 0 four
-    → not (eqb p 0x00FD) ≡ (wrong front four || not (eqb (pair_at 0 four) 0x00FD))
-front_number four n e = rw (n, e)
+-- M-104's claim
+pub pieces : (limit far : ℕ) → Pieces limit far
+pieces limit far =
+    record {
+      equal = λ l four total lent out ps good.
+          let code = live_begun limit far l four total lent out ps (ended_live limit far l four total lent out ps good) in
+          four_octets
+          (λ (four : List ℕ). begin_code limit far l four total lent ≡ done → (walked limit far l four total lent out ps).step.answer ≡ done
+          → result_of (walked limit far l four total lent out ps) ≡ open_result limit far l (four ++ joined ps) out)
+          (λ a b c d code. equal_four limit far l a b c d total lent out ps code (ltb (length out) total) refl)
+          four (four_long limit far l four total lent code) code good;
+      opens = λ l four out ps long.
+          four_octets
+          (λ (four : List ℕ). (open_result limit far l (four ++ joined ps) out).outcome.answer ≡ done
+          → ((begin_step limit far l four (length (joined ps)) (length out)).answer ≡ done)
+          × ((walked limit far l four (length (joined ps)) (length out) out ps).step.answer ≡ done))
+          (λ a b c d. opens_four limit far l a b c d out ps) four long;
+      refuses = λ l four text out long.
+          four_octets
+          (λ (four : List ℕ). (begin_step limit far l four (length text) (length out)).answer ≢ done
+          → (open_result limit far l (four ++ text) out ≡ record { outcome = outcome_in (begin_step limit far l four (length text) (length out)); buffer = out })
+          × ((begin_step limit far l four (length text) (length out)).walk ≡ over (begin_step limit far l four (length text) (length out)).walk.link))
+          (λ a b c d. begin_refuses limit far l a b c d text out (begin_code limit far l (a ∷ b ∷ c ∷ d ∷ []) (length text) (length out)) refl)
+          four long;
+      so_far = λ l four total lent out ps roomy live.
+          let code = live_begun limit far l four total lent out ps live in
+          four_octets
+          (λ (four : List ℕ). begin_code limit far l four total lent ≡ done → total ≤ length out
+          → (feed_all limit far (begin_step limit far l four total lent).walk out ps).walk.live ≡ true
+          → ((feed_all limit far (begin_step limit far l four total lent).walk out ps).walk.fed ≡ length (joined ps))
+          × ((feed_all limit far (begin_step limit far l four total lent).walk out ps).buffer
+          ≡ pick (early (length (joined ps))) out (written (plain_for l (header_in four) (joined ps)) out)))
+          (λ a b c d code. so_far_four limit far l a b c d total lent out ps code)
+          four (four_long limit far l four total lent code) code roomy live;
+      unmoved = unended_kept limit far;
+    }
+
+pub calls : (limit far : ℕ) → Calls limit far
+calls limit far =
+    record {
+      begun = λ l four total lent. begun_kept limit far l four total lent (begin_code limit far l four total lent) refl;
+      closed = λ l four total lent. begun_closed limit far l four total lent (begin_code limit far l four total lent) refl;
+      fed = λ w piece out. fed_kept limit far w piece out (feed_code limit far w piece (length out)) refl;
+      refused = λ w piece out. fed_refused limit far w piece out (feed_code limit far w piece (length out)) refl;
+      unended = λ w. end_refused limit far w (end_code limit far w) refl;
+      ended = end_good limit far;
+      later = λ l piece out. (over_feed limit far l piece out, over_end limit far l);
+    }
+
+-- one piece more
+pub feed_more : (limit far : ℕ) (w : Walk) (out : List ℕ) (ps : List (List ℕ)) (p : List ℕ) (r : Left) → feed_all limit far w out ps ≡ r
+    → feed_all limit far w out (ps ++ p ∷ [])
+    ≡ record { walk = (feed_result limit far r.walk p r.buffer).step.walk; buffer = (feed_result limit far r.walk p r.buffer).buffer }
+unfolding feed_all
+feed_more limit far w out [] p r e = rw (← e)
+feed_more limit far w out (q ∷ ps) p r e = feed_more limit far (feed_result limit far w q out).step.walk (feed_result limit far w q out).buffer ps p r e
+
+pub joined_more : (ps : List (List ℕ)) (p : List ℕ) → joined (ps ++ p ∷ []) ≡ joined ps ++ p
+unfolding joined
+joined_more [] p = append-nil p
+joined_more (q ∷ ps) p = rw (joined_more ps p) (sym (append_assoc q (joined ps) p))

@@ -2,7 +2,3 @@
 pub mod Walk
 -- The claim: a packet opened in pieces is the packet opened in one call; and what holds of every walk, also one made by hand.
 pub mod Pieces
--- Both proved.
-pub mod Laws
--- What a larger limit leaves as it was.
-pub mod Larger

@@ -1,153 +1,319 @@
--- The ways out of the calls.
-use mathlib.Core.Path.{◌≡◌, refl, sym, ap, ◌∙◌}
-use mathlib.Core.Bool.{Bool, true, false, not}
-use mathlib.Core.List.{List, [], ◌∷◌, ◌++◌, append-nil}
-use Prim.Native.Nat.{ℕ, ◌+◌, ◌*◌, ◌-◌, ◌/◌, ◌%◌, ◌<◌, ◌≤◌}
-use native.Mathlib.Omega.{arith}
-use lib.Dec.{eqb}
-use lib.ListN.{length, take, drop, get_or, replicate, length-append, length-drop}
-use lib.Seq.{take_all, drop-drop, get_or-drop}
-use borrow.Author.Tests.{eq-eqb, ne_eqb, lt-ltb, le-ltb}
-use Rattle.answer.specs.Answer.{done}
-use Rattle.octets.specs.Octets.{written, written_at}
-use Rattle.octets.specs.Laws.{append_more}
+-- What holds of records as octets.
+use Rattle.std.specs.Prelude.{◌≡◌, Bool, true, not, List, [], ◌∷◌, ◌++◌, ℕ, zero, suc, ◌+◌, ◌*◌, ◌/◌, ◌%◌, ◌^◌, ◌<◌, ◌≤◌, eqb, length, take, drop, replicate}
+use Rattle.std.proofs.Math.Path.{refl, ap}
+use Rattle.std.proofs.Common.{sym, ◌∙◌, append_assoc, append-nil, arith, length-append, length-drop, take-append-drop, take_at, drop_at, drop-drop, take-add, drop-cons, get_or-drop, eq-eqb, eqb-true, ltb-false}
+use Rattle.std.proofs.Math.Bool.{false}
+use Rattle.std.proofs.Math.ListN.{get_or}
+use Rattle.std.proofs.Math.Seq.{take_all}
+use Rattle.answer.specs.Answer.{done, size, not_record, waiting, pick, first_of, on_done}
+use Rattle.octets.specs.Octets.{Octets, big_endian}
 use Rattle.rc4.specs.declared.Rc4.{Rc4}
-use Rattle.rc4.specs.Cipher.{unkeyed}
+use Rattle.rc4.specs.Cipher.{box, unkeyed, key_schedule, after}
+use Rattle.rc4.proofs.Permutation.{below_length, unkeyed_is, Sized as StateSized, keyed_sized, after_sized}
 use Rattle.mppe_keys.specs.declared.Strength.{Strength}
 use Rattle.mppe_keys.specs.declared.Mode.{Mode}
-use Rattle.mppe_keys.specs.declared.Mode.TheVariants.{Stateless}
+use Rattle.mppe_keys.specs.declared.Mode.TheVariants.{Stateless, Stateful}
 use Rattle.mppe_keys.specs.declared.Strength.TheVariants.{Bits40, Bits56, Bits128}
-use Rattle.mppe_keys.specs.Keys.{bits_of, by_mode, mode_if}
+use Rattle.mppe_keys.specs.Keys.{bits_of, key_length, by_mode, mode_if, head_of, begins, initial_key, changes, placed}
+use Rattle.mppe_keys.proofs.Laws.{key_most, placed_length, initial_key_length, changes_length}
 use Rattle.mppe.specs.declared.Link.{Link}
+use Rattle.mppe.specs.Link.{zeros, box_fits, well_formed, Result, start_key_in, session_key_in, link_of, with_box, kept_box, new_count, no_link, new_link, bit_a, lacks, refusal, seal_code, seal_result, next_changes, next_key, keys_afresh, next_box, header_in, data_in, changes_for, key_for, box_for, state_for, waited, open_code, open_result, reset_code, reset_outcome}
+use Rattle.mppe.proofs.Laws.{session_length, well_box, fits_unmarked, fits_unkeyed}
 use Rattle.mppe_record.specs.declared.RecordRead.{RecordRead}
-use Rattle.mppe_record.specs.Record.{strength_of, no_strength, yes_number, front_octets, rest_octets, record_length, record_octets, front_in, record_in, no_record, record_read, front_length, stateless_in, stateless_read}
-use Rattle.mppe_record.specs.Inner.{state_in}
-use Rattle.mppe_record.specs.Laws.{two_octets, Sized, front_octets_length}
+use Rattle.mppe_record.specs.Record.{strength_of, no_strength, yes_number, no_choice, front_octets, rest_octets, record_length, record_octets, front_in, record_in, no_record, record_read, front_length, stateless_in, stateless_read}
 
--- the strength of a number of bits
-pub bits_128 : (bits : ℕ) → bits ≡ 128 → Bits128 ≡ strength_of bits
-bits_128 bits e = rw (eq-eqb bits 128 e)
+-- a strength's bits are its number
+pub bits_back : (s : Strength) → strength_of (bits_of s) ≡ s
+bits_back Bits40 = refl
+bits_back Bits56 = refl
+bits_back Bits128 = refl
 
-pub bits_56 : (bits : ℕ) → (bits ≡ 128 → ⊥) → bits ≡ 56 → Bits56 ≡ strength_of bits
-bits_56 bits h e = rw (ne_eqb bits 128 h, eq-eqb bits 56 e)
+pub bits_known : (s : Strength) → no_strength (bits_of s) ≡ false
+bits_known Bits40 = refl
+bits_known Bits56 = refl
+bits_known Bits128 = refl
 
-pub bits_40 : (bits : ℕ) → (bits ≡ 128 → ⊥) → (bits ≡ 56 → ⊥) → Bits40 ≡ strength_of bits
-bits_40 bits h h' = rw (ne_eqb bits 128 h, ne_eqb bits 56 h')
+-- a mode is stateful or is not, and a yes or no is its number
+mode_back : (m : Mode) → mode_if (by_mode m false true) ≡ m
+mode_back Stateless = refl
+mode_back Stateful = refl
 
-pub none_told : {s : Strength} {b : ℕ} (bits : ℕ) → s ≡ strength_of bits → b ≡ bits_of s → not (eqb bits b) ≡ no_strength bits
-none_told bits es eb = rw (eb, es)
+mode_told : (stateful : Bool) → by_mode (mode_if stateful) false true ≡ stateful
+mode_told true = refl
+mode_told false = refl
 
--- octets that hold no record, by their number, their first, the mode and the mark, and octets that hold one
-pub not_long : {r : RecordRead} (octets : List ℕ) → (length octets ≡ record_length → ⊥) → r ≡ no_record → r ≡ record_read octets
-unfolding record_read
-not_long octets h e = e ∙ rw (ne_eqb (length octets) record_length h)
+pub yes_back : (holds : Bool) → eqb (yes_number holds) 1 ≡ holds
+yes_back true = refl
+yes_back false = refl
 
-pub not_strong : {r : RecordRead} {none : Bool} (octets : List ℕ) → length octets ≡ record_length → none ≡ no_strength (get_or octets 0 0) → none ≡ true
-    → r ≡ no_record → r ≡ record_read octets
-unfolding record_read
-not_strong octets h en e er = er ∙ rw (eq-eqb (length octets) record_length h, sym en ∙ e)
+pub yes_known : (holds : Bool) → no_choice (yes_number holds) ≡ false
+yes_known true = refl
+yes_known false = refl
 
-pub not_mode : {r : RecordRead} {none : Bool} (octets : List ℕ) → length octets ≡ record_length → none ≡ no_strength (get_or octets 0 0) → none ≡ false
-    → 1 < get_or octets 35 0 → r ≡ no_record → r ≡ record_read octets
-unfolding record_read
-not_mode octets h en e hm er = er ∙ rw (eq-eqb (length octets) record_length h, sym en ∙ e, lt-ltb 1 (get_or octets 35 0) hm)
+-- a number as two octets, and two octets that are a number's
+pub two_octets : (n : ℕ) → n < 65536 → n / 256 ∷ n % 256 ∷ [] ≡ big_endian 2 n
+two_octets n h =
+    let high : n / 256 ^ 1 % 256 ≡ n / 256 = omega arith in
+    let low : n / 256 ^ 0 % 256 ≡ n % 256 = omega arith in
+    rw (high, low)
 
-pub not_mark : {r : RecordRead} {none : Bool} (octets : List ℕ) → length octets ≡ record_length → none ≡ no_strength (get_or octets 0 0) → none ≡ false
-    → get_or octets 35 0 ≤ 1 → 1 < get_or octets 36 0 → r ≡ no_record → r ≡ record_read octets
-unfolding record_read
-not_mark octets h en e hm hk er =
-    er ∙ rw (eq-eqb (length octets) record_length h, sym en ∙ e, le-ltb 1 (get_or octets 35 0) hm, lt-ltb 1 (get_or octets 36 0) hk)
+pub pair_back : (high low : ℕ) → high < 256 → low < 256 → big_endian 2 (high * 256 + low) ≡ high ∷ low ∷ []
+pair_back high low hh hl =
+    let first : (high * 256 + low) / 256 ^ 1 % 256 ≡ high = omega arith in
+    let second : (high * 256 + low) / 256 ^ 0 % 256 ≡ low = omega arith in
+    rw (first, second)
 
-pub held : {l : Link} {none : Bool} (octets : List ℕ) → length octets ≡ record_length → none ≡ no_strength (get_or octets 0 0) → none ≡ false
-    → get_or octets 35 0 ≤ 1 → get_or octets 36 0 ≤ 1 → l ≡ record_in octets → ◌≡◌ {A = RecordRead} (record { answer = done; link = l }) (record_read octets)
-unfolding record_read
-held octets h en e hm hk el =
-    rw (eq-eqb (length octets) record_length h, sym en ∙ e, le-ltb 1 (get_or octets 35 0) hm, le-ltb 1 (get_or octets 36 0) hk, el)
+-- what the fields of the code's struct hold: 16 places a key, a count of 16 bits, 256 cells, and indices that are octets
+abbrev pub Sized : Link → Type 0
+Sized l = (length l.start ≡ 16) × (length l.session ≡ 16) × (l.count < 65536) × StateSized l.state
 
--- the record of which octets hold the first 35
-pub front_read_lem : {s : Strength} {start session : List ℕ} {count : ℕ} (octets : List ℕ) (mode : Mode) (state : Rc4) (mark : Bool) → s ≡ strength_of (get_or octets 0 0)
-    → start ≡ take 16 (drop 1 octets) → session ≡ take 16 (drop 17 octets) → count ≡ get_or octets 33 0 * 256 + get_or octets 34 0
-    → ◌≡◌ {A = Link} (record { strength = s; mode = mode; start = start; session = session; count = count; state = state; waiting = mark }) (front_in octets mode state mark)
-front_read_lem octets mode state mark es eb ek ec = rw (es, eb, ek, ec)
-
--- the record in 295 octets
-pub record_read_lem : {l : Link} {mode : Mode} {state : Rc4} (octets : List ℕ) → length octets ≡ record_length → mode ≡ mode_if (eqb (get_or octets 35 0) 1)
-    → state ≡ state_in (take (length octets - 37) (drop 37 octets)) → l ≡ front_in octets mode state (eqb (get_or octets 36 0) 1) → l ≡ record_in octets
-unfolding record_in state_in
-record_read_lem octets h em et el =
-    let all : take (length octets - 37) (drop 37 octets) ≡ drop 37 octets = take_all (length octets - 37) (drop 37 octets) (omega (arith, length-drop 37 octets)) in
-    let cells : drop 2 (drop 37 octets) ≡ take 256 (drop 39 octets) = drop-drop 2 37 octets ∙ sym (take_all 256 (drop 39 octets) (omega (arith, length-drop 39 octets))) in
-    rw (el, em, et, all, cells, get_or-drop 37 octets 0 0, get_or-drop 37 octets 1 0)
-
--- octets that hold no stateless record, by their number and their first, and octets that hold one
-pub not_front : {r : RecordRead} (octets : List ℕ) → (length octets ≡ front_length → ⊥) → r ≡ no_record → r ≡ stateless_read octets
-unfolding stateless_read
-not_front octets h e = e ∙ rw (ne_eqb (length octets) front_length h)
-
-pub front_not_strong : {r : RecordRead} {none : Bool} (octets : List ℕ) → length octets ≡ front_length → none ≡ no_strength (get_or octets 0 0) → none ≡ true
-    → r ≡ no_record → r ≡ stateless_read octets
-unfolding stateless_read
-front_not_strong octets h en e er = er ∙ rw (eq-eqb (length octets) front_length h, sym en ∙ e)
-
-pub front_held : {l : Link} {none : Bool} {state : Rc4} (octets : List ℕ) → length octets ≡ front_length → none ≡ no_strength (get_or octets 0 0) → none ≡ false
-    → state ≡ unkeyed → l ≡ front_in octets Stateless state false → ◌≡◌ {A = RecordRead} (record { answer = done; link = l }) (stateless_read octets)
-unfolding stateless_read stateless_in
-front_held octets h en e es el = rw (eq-eqb (length octets) front_length h, sym en ∙ e, el, es)
-
--- RC4's state in 258 octets
-pub state_read : {cells : List ℕ} (octets : List ℕ) → length octets ≡ 258 → cells ≡ written (take 256 (take (length octets - 2) (drop 2 octets))) (replicate 256 0)
-    → ◌≡◌ {A = Rc4} (record { cells = cells; i = get_or octets 0 0; j = get_or octets 1 0 }) (state_in octets)
-unfolding state_in
-state_read octets h e =
-    let long = length-drop 2 octets in
-    let all : take (length octets - 2) (drop 2 octets) ≡ drop 2 octets = take_all (length octets - 2) (drop 2 octets) (omega arith) in
-    let size : length (drop 2 octets) ≡ 256 = omega arith in
-    rw (e, all, take_all 256 (drop 2 octets) (omega arith), size, append-nil)
-
--- a key's places copied
-pub places_copied : {r : List ℕ} (key : List ℕ) → r ≡ written (take 16 key) (replicate 16 0) → length key ≡ 16 → r ≡ key
-places_copied key e h = e ∙ rw (take_all 16 key (omega arith), h, append-nil)
-
--- the octets of a record, one part behind the other
-pub front_laid : {b : ℕ} {t₁ t₂ t₃ t₄ : List ℕ} (l : Link) → Sized l
-    → (b ≡ bits_of l.strength) × (t₁ ≡ written_at 0 (take 35 (b ∷ [])) (replicate 35 0))
-    × (t₂ ≡ written_at 1 (take (length t₁ - 1) l.start) t₁) × (t₃ ≡ written_at 17 (take (length t₂ - 17) l.session) t₂)
-    × (t₄ ≡ written_at 33 (take (length t₃ - 33) (l.count / 256 ∷ l.count % 256 ∷ [])) t₃) → (t₄ ≡ front_octets l) × (length t₄ ≡ 35)
+-- the octets of a record: their number ..
+pub front_octets_length : (l : Link) → Sized l → length (front_octets l) ≡ 35
 unfolding front_octets
-front_laid {b} {t₁} {t₂} {t₃} {t₄} l (hs, hk, hc, hb) (eb, e₁, e₂, e₃, e₄) =
-    let g₁ = append_more [] (b ∷ []) 0 35 refl e₁ refl (omega arith) in
-    let g₂ = append_more (b ∷ []) l.start 1 34 g₁ e₂ refl (omega arith) in
-    let g₃ = append_more (b ∷ l.start) l.session 17 (34 - length l.start) g₂ e₃ (omega arith) (omega arith) in
-    let both : length ((b ∷ l.start) ++ l.session) ≡ 33 = length-append (b ∷ l.start) l.session ∙ omega arith in
-    let left : ℕ = 34 - length l.start - length l.session in
-    let last : List ℕ = l.count / 256 ∷ l.count % 256 ∷ [] in
-    let g₄ = append_more ((b ∷ l.start) ++ l.session) last 33 left g₃ e₄ (sym both) (omega arith) in
-    let all : left - 2 ≡ 0 = omega arith in
-    let none : replicate {A = ℕ} (left - 2) 0 ≡ [] = ap (λ n. replicate {A = ℕ} n 0) all in
-    let front : List ℕ = ((b ∷ l.start) ++ l.session) ++ last in
-    let is : t₄ ≡ front_octets l = unfold front_octets in (g₄ ∙ ap (λ z. front ++ z) none ∙ append-nil front ∙ rw (eb, two_octets l.count hc)) in
-    (is, ap length is ∙ front_octets_length l (hs, hk, hc, hb))
+front_octets_length l (hs, hk, hc, hb) = simp length-append (omega arith)
 
--- the octets behind these
-pub rest_laid : {stateful : Bool} {m k : ℕ} {t₁ t₂ : List ℕ} (l : Link) → length l.state.cells ≡ 256
-    → (stateful ≡ by_mode l.mode false true) × (m ≡ yes_number stateful) × (k ≡ yes_number l.waiting)
-    × (t₁ ≡ written (take 260 (m ∷ k ∷ l.state.i ∷ l.state.j ∷ [])) (replicate 260 0)) × (t₂ ≡ written_at 4 (take (length t₁ - 4) l.state.cells) t₁)
-    → (t₂ ≡ rest_octets l) × (length t₂ ≡ 260)
+rest_octets_length : (l : Link) → Sized l → length (rest_octets l) ≡ 260
 unfolding rest_octets
-rest_laid {stateful} {m} {k} {t₁} {t₂} l hl (es, em, ek, e₁, e₂) =
-    let four : List ℕ = m ∷ k ∷ l.state.i ∷ l.state.j ∷ [] in
-    let g₂ = append_more four l.state.cells 4 256 e₁ e₂ refl (omega arith) in
-    let all : 256 - length l.state.cells ≡ 0 = omega arith in
-    let none : replicate {A = ℕ} (256 - length l.state.cells) 0 ≡ [] = ap (λ n. replicate {A = ℕ} n 0) all in
-    let whole : t₂ ≡ four ++ l.state.cells = g₂ ∙ ap (λ z. (four ++ l.state.cells) ++ z) none ∙ append-nil (four ++ l.state.cells) in
-    (whole ∙ rw (em, es, ek), ap length whole ∙ omega arith)
+rest_octets_length l (hs, hk, hc, hb) = omega (arith, hb.0)
 
--- the whole record
-pub record_laid : {front rest t₁ t₂ : List ℕ} (l : Link) → (front ≡ front_octets l) × (length front ≡ 35) → (rest ≡ rest_octets l) × (length rest ≡ 260)
-    → t₁ ≡ written (take 295 front) (replicate 295 0) → t₂ ≡ written_at 35 (take (length t₁ - 35) rest) t₁ → t₂ ≡ record_octets l
+pub record_octets_length : (l : Link) → Sized l → length (record_octets l) ≡ record_length
 unfolding record_octets
-record_laid {front} {rest} {t₁} l (ef, hf) (er, hr) e₁ e₂ =
-    let laid : t₁ ≡ front ++ replicate 260 0 = e₁ ∙ rw (take_all 295 front (omega arith), hf) in
-    let g₂ = append_more front rest 35 260 laid e₂ (sym hf) (omega arith) in
-    let none : replicate {A = ℕ} (260 - length rest) 0 ≡ [] = ap (λ n. replicate {A = ℕ} (260 - n) 0) hr in
-    g₂ ∙ ap (λ z. (front ++ rest) ++ z) none ∙ append-nil (front ++ rest) ∙ rw (ef, er)
+record_octets_length l h = length-append (front_octets l) (rest_octets l) ∙ omega (arith, front_octets_length l h, rest_octets_length l h)
+
+-- .. what stands behind the first 35 ..
+behind_front : (l : Link) → Sized l → drop 35 (record_octets l) ≡ rest_octets l
+unfolding record_octets
+behind_front l h = drop_at (front_octets l) (rest_octets l) 35 (front_octets_length l h)
+
+rest_at : (l : Link) → Sized l → (i : ℕ) → get_or (record_octets l) (35 + i) 0 ≡ get_or (rest_octets l) i 0
+rest_at l h i = sym (get_or-drop 35 (record_octets l) i 0) ∙ ap (λ t. get_or t i 0) (behind_front l h)
+
+-- .. and that the record is read back from them
+first_is_lem : (l : Link) → get_or (record_octets l) 0 0 ≡ bits_of l.strength
+unfolding record_octets front_octets
+first_is_lem l = refl
+
+mode_is : (l : Link) → Sized l → get_or (record_octets l) 35 0 ≡ yes_number (by_mode l.mode false true)
+mode_is l h = rest_at l h 0 ∙ unfold rest_octets in refl
+
+mark_is : (l : Link) → Sized l → get_or (record_octets l) 36 0 ≡ yes_number l.waiting
+mark_is l h = rest_at l h 1 ∙ unfold rest_octets in refl
+
+cells_are : (l : Link) → Sized l → take 256 (drop 39 (record_octets l)) ≡ l.state.cells
+cells_are l h =
+    let behind : drop 39 (record_octets l) ≡ drop 4 (rest_octets l) = sym (drop-drop 4 35 (record_octets l)) ∙ ap (drop 4) (behind_front l h) in
+    let cells : drop 4 (rest_octets l) ≡ l.state.cells = unfold rest_octets in refl in
+    ap (take 256) (behind ∙ cells) ∙ take_all 256 l.state.cells (omega (arith, h.3.0))
+
+-- whatever stands behind the first 35
+front_in_back : (l : Link) → Sized l → (rest : List ℕ) (mode : Mode) (state : Rc4) (mark : Bool)
+    → front_in (front_octets l ++ rest) mode state mark
+    ≡ record { strength = l.strength; mode = mode; start = l.start; session = l.session; count = l.count; state = state; waiting = mark }
+unfolding front_octets
+front_in_back l (hs, hk, hc, hb) rest mode state mark =
+    let count : List ℕ = big_endian 2 l.count in
+    let tail : List ℕ = count ++ rest in
+    let both : length (l.start ++ l.session) ≡ 32 = length-append l.start l.session ∙ omega arith in
+    let body : List ℕ = (l.start ++ l.session ++ count) ++ rest in
+    let parts : body ≡ (l.start ++ l.session) ++ tail = append_assoc (l.start ++ l.session) count rest in
+    let parts' : body ≡ l.start ++ (l.session ++ tail) = parts ∙ append_assoc l.start l.session tail in
+    let start : take 16 body ≡ l.start = ap (take 16) parts' ∙ take_at l.start (l.session ++ tail) 16 hs in
+    let behind = ap (drop 16) parts' ∙ drop_at l.start (l.session ++ tail) 16 hs in
+    let session : take 16 (drop 16 body) ≡ l.session = ap (take 16) behind ∙ take_at l.session tail 16 hk in
+    let last : drop 32 body ≡ tail = ap (drop 32) parts ∙ drop_at (l.start ++ l.session) tail 32 both in
+    let high : get_or body 32 0 ≡ l.count / 256 ^ 1 % 256 = sym (get_or-drop 32 body 0 0) ∙ ap (λ t. get_or t 0 0) last in
+    let low : get_or body 33 0 ≡ l.count / 256 ^ 0 % 256 = sym (get_or-drop 32 body 1 0) ∙ ap (λ t. get_or t 1 0) last in
+    let all : get_or body 32 0 * 256 + get_or body 33 0 ≡ l.count = rw (high, low) (omega arith) in
+    rw (bits_back l.strength, start, session, all)
+
+record_in_back : (l : Link) → Sized l → record_in (record_octets l) ≡ l
+unfolding record_in
+record_in_back l h =
+    let i-is : get_or (record_octets l) 37 0 ≡ l.state.i = rest_at l h 2 ∙ unfold rest_octets in refl in
+    let j_is : get_or (record_octets l) 38 0 ≡ l.state.j = rest_at l h 3 ∙ unfold rest_octets in refl in
+    let all : record_octets l ≡ front_octets l ++ rest_octets l = unfold record_octets in refl in
+    rw (mode_is l h, yes_back (by_mode l.mode false true), mode_back l.mode, mark_is l h, yes_back l.waiting, cells_are l h, i-is, j_is)
+    (ap (λ t. front_in t l.mode l.state l.waiting) all ∙ front_in_back l h (rest_octets l) l.mode l.state l.waiting)
+
+pub reads_back : (l : Link) → Sized l → record_read (record_octets l) ≡ record { answer = done; link = l }
+unfolding record_read
+reads_back l h =
+    rw
+    (eq-eqb (length (record_octets l)) record_length (record_octets_length l h), first_is_lem l, bits_known l.strength, mode_is l h, yes_known (by_mode l.mode false true), mark_is l h, yes_known l.waiting, record_in_back l h)
+
+-- octets that are read: there are 295 of them, the first is the bits of a strength, mode and mark are 0 or 1, and what is read is the
+-- record in them
+abbrev first_is : List ℕ → Bool
+first_is octets = let bits : ℕ = get_or octets 0 0 in eqb bits (bits_of (strength_of bits))
+
+read_known : (octets : List ℕ) → (record_read octets).answer ≡ done
+    → (length octets ≡ record_length) × (first_is octets ≡ true) × (no_choice (get_or octets 35 0) ≡ false) × (no_choice (get_or octets 36 0) ≡ false)
+    × ((record_read octets).link ≡ record_in octets)
+unfolding record_read
+read_known octets ok = go (eqb (length octets) record_length) (first_is octets) (no_choice (get_or octets 35 0)) (no_choice (get_or octets 36 0)) refl refl refl refl ok
+  where
+    read : Bool → Bool → Bool → Bool → RecordRead
+    read a b m k =
+        on_done (first_of ((not_record, not a) ∷ (not_record, not b) ∷ (not_record, m) ∷ (not_record, k) ∷ [])) (record { answer = done; link = record_in octets }) no_record
+
+    go : (a b m k : Bool) → eqb (length octets) record_length ≡ a → first_is octets ≡ b → no_choice (get_or octets 35 0) ≡ m → no_choice (get_or octets 36 0) ≡ k
+        → (read a b m k).answer ≡ done
+        → (length octets ≡ record_length) × (first_is octets ≡ true) × (no_choice (get_or octets 35 0) ≡ false) × (no_choice (get_or octets 36 0) ≡ false)
+        × ((read a b m k).link ≡ record_in octets)
+    go true true false false h e em ek ok = (eqb-true (length octets) record_length h, e, em, ek, refl)
+    go true true false true h e em ek ok = absurd (omega arith)
+    go true true true k h e em ek ok = absurd (omega arith)
+    go true false m k h e em ek ok = absurd (omega arith)
+    go false b m k h e em ek ok = absurd (omega arith)
+
+pub read_length : (octets : List ℕ) → (record_read octets).answer ≡ done → length octets ≡ record_length
+read_length octets ok = (read_known octets ok).0
+
+-- octets that hold a record, read and written back, are the same: the first 35 ..
+front_back : (octets : List ℕ) → Octets octets → front_length ≤ length octets → first_is octets ≡ true → (mode : Mode) (state : Rc4) (mark : Bool)
+    → front_octets (front_in octets mode state mark) ≡ take 35 octets
+unfolding front_octets
+front_back [] all h e mode state mark = absurd (omega arith)
+front_back (x ∷ xs) all h e mode state mark =
+    let high : ℕ = get_or xs 32 0 in
+    let low : ℕ = get_or xs 33 0 in
+    let last : take 2 (drop 32 xs) ≡ high ∷ low ∷ [] = ap (take 2) (drop-cons xs 32 0 (omega arith) ∙ ap (λ t. high ∷ t) (drop-cons xs 33 0 (omega arith))) in
+    let tail : List ℕ = big_endian 2 (high * 256 + low) in
+    let count : tail ≡ high ∷ low ∷ [] = pair_back high low (all 33) (all 34) in
+    let keys : take 16 xs ++ take 16 (drop 16 xs) ≡ take 32 xs = sym (take-add 16 16 xs) in
+    let behind : take 16 xs ++ take 16 (drop 16 xs) ++ tail ≡ take 34 xs = ap (λ k. k ++ tail) keys ∙ ap (λ t. take 32 xs ++ t) (count ∙ sym last) ∙ sym (take-add 32 2 xs) in
+    ap (λ t. bits_of (strength_of x) ∷ t) behind ∙ ap (λ b. b ∷ take 34 xs) (sym (eqb-true x (bits_of (strength_of x)) e))
+
+-- .. and those behind them
+pub choice_is : (n : ℕ) → no_choice n ≡ false → yes_number (eqb n 1) ≡ n
+choice_is zero h = refl
+choice_is (suc zero) h = refl
+choice_is (suc (suc n)) h = absurd (omega (arith, ltb-false 1 (suc (suc n)) h))
+
+rest_back : (octets : List ℕ) → length octets ≡ record_length → no_choice (get_or octets 35 0) ≡ false → no_choice (get_or octets 36 0) ≡ false
+    → rest_octets (record_in octets) ≡ drop 35 octets
+unfolding rest_octets record_in
+rest_back octets h em ek =
+    let long = length-drop 39 octets in
+    let cells : take 256 (drop 39 octets) ≡ drop 39 octets = take_all 256 (drop 39 octets) (omega arith) in
+    let four : drop 35 octets ≡ get_or octets 35 0 ∷ get_or octets 36 0 ∷ get_or octets 37 0 ∷ get_or octets 38 0 ∷ drop 39 octets =
+    drop-cons octets 35 0 (omega arith)
+    ∙ ap (λ t. get_or octets 35 0 ∷ t)
+    (drop-cons octets 36 0 (omega arith)
+    ∙ ap (λ t. get_or octets 36 0 ∷ t) (drop-cons octets 37 0 (omega arith) ∙ ap (λ t. get_or octets 37 0 ∷ t) (drop-cons octets 38 0 (omega arith)))) in
+    rw (mode_told (eqb (get_or octets 35 0) 1), choice_is (get_or octets 35 0) em, choice_is (get_or octets 36 0) ek, cells) (sym four)
+
+pub writes_back : (octets : List ℕ) → Octets octets → (record_read octets).answer ≡ done → record_octets (record_read octets).link ≡ octets
+unfolding record_octets
+writes_back octets all ok =
+    let (long, first, mode, mark, link) = read_known octets ok in
+    let front : front_octets (record_in octets) ≡ take 35 octets = unfold record_in in front_back octets all (omega arith) first _ _ _ in
+    rw (link, front, rest_back octets long mode mark) (take-append-drop 35 octets)
+
+-- a well-formed stateless record is read back from its first 35 octets alone, and what is read of them is written as them
+pub stateless_in_back : (l : Link) → Sized l → l.mode ≡ Stateless → well_formed l ≡ true → stateless_in (front_octets l) ≡ l
+unfolding stateless_in
+stateless_in_back l h mode well =
+    let fits : box_fits Stateless l.state l.waiting ≡ true = rw mode at (well_box l well) in
+    let state = unkeyed_is l.state (fits_unkeyed l.state l.waiting fits) in
+    let mark = fits_unmarked Stateless l.state l.waiting refl fits in
+    ap (λ t. front_in t Stateless unkeyed false) (sym (append-nil (front_octets l))) ∙ front_in_back l h [] Stateless unkeyed false ∙ rw (← mode, state, mark)
+
+pub stateless_back : (l : Link) → Sized l → l.mode ≡ Stateless → well_formed l ≡ true → stateless_read (front_octets l) ≡ record { answer = done; link = l }
+unfolding stateless_read front_octets
+stateless_back l h mode well =
+    rw (eq-eqb (length (front_octets l)) front_length (front_octets_length l h), bits_known l.strength, stateless_in_back l h mode well)
+
+pub stateless_writes : (octets : List ℕ) → Octets octets → (stateless_read octets).answer ≡ done → front_octets (stateless_read octets).link ≡ octets
+unfolding stateless_read stateless_in
+stateless_writes octets all ok = go (eqb (length octets) front_length) (first_is octets) refl refl ok
+  where
+    read : Bool → Bool → RecordRead
+    read a b = on_done (first_of ((not_record, not a) ∷ (not_record, not b) ∷ [])) (record { answer = done; link = stateless_in octets }) no_record
+
+    go : (a b : Bool) → eqb (length octets) front_length ≡ a → first_is octets ≡ b → (read a b).answer ≡ done → front_octets (read a b).link ≡ octets
+    go true true h e ok =
+        let long = eqb-true (length octets) front_length h in
+        front_back octets all (omega arith) e Stateless unkeyed false ∙ take_all 35 octets (omega arith)
+    go true false h e ok = absurd (omega arith)
+    go false b h e ok = absurd (omega arith)
+
+-- what is read of octets that hold no record is not well formed, so that seal and open refuse it
+pub no_record_ill : well_formed no_record.link ≡ false
+unfolding well_formed zeros begins head_of no_link
+no_record_ill = refl
+
+-- a new link has these sizes, and all calls keep them
+zeros_sized : StateSized (box (replicate 256 0) 0 0)
+zeros_sized = (refl, omega arith, omega arith)
+
+unkeyed_sized : StateSized unkeyed
+unkeyed_sized = (below_length 256, omega arith, omega arith)
+
+pub new_sized : (s : Strength) (mode : Mode) (start : List ℕ) → Sized (new_link s mode start).link
+unfolding new_link no_link
+new_sized s mode start = go (eqb (length start) (key_length s)) refl
+  where
+    go : (t : Bool) → eqb (length start) (key_length s) ≡ t
+        → Sized (on_done (first_of ((size, not t) ∷ [])) (link_of s mode start (initial_key s start) new_count unkeyed (by_mode mode false true)) (no_link s mode))
+    go true h = (placed_length start (omega (arith, eqb-true (length start) (key_length s) h, key_most s)), placed_length (initial_key s start) (omega (arith, initial_key_length s start, key_most s)), omega arith, unkeyed_sized)
+    go false h = (refl, refl, omega arith, zeros_sized)
+
+-- n key changes fill the places
+changed_places : (l : Link) (n : ℕ) → Sized l → length (placed (changes l.strength (start_key_in l) n (session_key_in l))) ≡ 16
+changed_places l n (hs, hk, hc, hb) =
+    let key = changes_length l.strength (start_key_in l) n (session_key_in l) (session_length l hk) in
+    placed_length (changes l.strength (start_key_in l) n (session_key_in l)) (omega (arith, key, key_most l.strength))
+
+picked_sized : (t : Bool) (a b : Rc4) → StateSized a → StateSized b → StateSized (pick t a b)
+picked_sized true a b ha hb = ha
+picked_sized false a b ha hb = hb
+
+kept_sized : (l : Link) (drawn : Rc4) → StateSized l.state → StateSized drawn → StateSized (kept_box l drawn)
+kept_sized l drawn ha hb = by l.mode
+  where
+    by : (m : Mode) → StateSized (by_mode m l.state drawn)
+    by Stateless = ha
+    by Stateful = hb
+
+done_sized : (n : ℕ) (a b : Rc4) → StateSized a → StateSized b → StateSized (on_done n a b)
+done_sized zero a b ha hb = ha
+done_sized (suc n) a b ha hb = hb
+
+kept : (code : ℕ) (r : Result) (l : Link) (out : List ℕ) → Sized r.outcome.link → Sized l → Sized (on_done code r (refusal code l out)).outcome.link
+kept zero r l out made held = made
+kept (suc n) r l out made held = held
+
+pub seal_sized : (limit : ℕ) (l : Link) (plain out : List ℕ) → Sized l → Sized (seal_result limit l plain out).outcome.link
+unfolding seal_result next_box next_key
+seal_sized limit l plain out (hs, hk, hc, hb) =
+    let used = picked_sized (keys_afresh l) (key_schedule (next_key l)) l.state (keyed_sized (next_key l)) hb in
+    let left = kept_sized l (after (next_box l) plain) hb (after_sized (next_box l) plain used) in
+    kept (seal_code limit l plain (length out)) _ l out (hs, changed_places l (next_changes l) (hs, hk, hc, hb), omega arith, left) (hs, hk, hc, hb)
+
+waited_kept : (code : ℕ) (r w : Result) (l : Link) (out : List ℕ) → Sized r.outcome.link → Sized w.outcome.link → Sized l
+    → Sized (on_done code r (pick (eqb code waiting) w (refusal code l out))).outcome.link
+waited_kept zero r w l out made wait held = made
+waited_kept (suc n) r w l out made wait held = by (eqb (suc n) waiting)
+  where
+    by : (t : Bool) → Sized (pick t w (refusal (suc n) l out)).outcome.link
+    by true = wait
+    by false = held
+
+pub open_sized : (limit far : ℕ) (l : Link) (packet out : List ℕ) → Sized l → Sized (open_result limit far l packet out).outcome.link
+unfolding open_result key_for state_for box_for
+open_sized limit far l packet out (hs, hk, hc, hb) =
+    let h : ℕ = header_in packet in
+    let places = changed_places l (changes_for l h) (hs, hk, hc, hb) in
+    let held = done_sized (changes_for l h) l.state (key_schedule (key_for l h)) hb (keyed_sized (key_for l h)) in
+    let used = picked_sized (lacks bit_a h) (box_for l h) (key_schedule (key_for l h)) held (keyed_sized (key_for l h)) in
+    let left = kept_sized l (after (state_for l h) (data_in packet)) hb (after_sized (state_for l h) (data_in packet) used) in
+    waited_kept (open_code limit far l packet (length out)) _ (waited l h out) l out (hs, places, omega arith, left) (hs, places, omega arith, held) (hs, hk, hc, hb)
+
+pub reset_sized : (l : Link) (request : List ℕ) → Sized l → Sized (reset_outcome l request).link
+unfolding reset_outcome
+reset_sized l request h = by (reset_code l request)
+  where
+    by : (code : ℕ) → Sized (on_done code (with_box l l.state (by_mode l.mode l.waiting true)) l)
+    by zero = h
+    by (suc n) = h

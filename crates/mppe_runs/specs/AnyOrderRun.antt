@@ -19,6 +19,10 @@ most_ahead = farthest
 abbrev pub most_behind : ℕ
 most_behind = counts - farthest - 1
 
+-- the limits ahead and behind leave one of the counts for the newest opened
+abbrev pub LeavesNewest : (far behind : ℕ) → Type 0
+LeavesNewest far behind = far + behind < counts
+
 -- Of packet q. `next` is one more than the number of the newest opened, at first 0; `held` is the record of the newest opened, or the new
 -- link. "every one ahead opens to what was sealed", reports how far ahead it is, and leaves the sender's record; "every other is refused
 -- with 6 or 10 and changes nothing": 6 for the newest itself, 10 for one behind it.

@@ -2,13 +2,3 @@
 pub mod Run
 pub mod AnyOrderRun
 pub mod StatefulRun
--- All three proved: demand 3 from M-105.
-pub mod Line
-pub mod AnyOrder
-pub mod Demand3
-pub mod Stateful
--- Runs that meet their schedules.
-pub mod Example
-pub mod AtLimit
-pub mod AnyOrderExample
-pub mod StatefulExample

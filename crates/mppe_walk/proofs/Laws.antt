@@ -15,7 +15,7 @@ use Rattle.octets.specs.Laws.{append_more, grown}
 use Rattle.mppe.specs.declared.Link.{Link}
 use Rattle.mppe_record.specs.declared.RecordRead.{RecordRead}
 use Rattle.mppe_record.specs.Record.{yes_number, record_length, record_octets}
-use Rattle.mppe_record.specs.Laws.{two_octets}
+use Rattle.mppe_record.proofs.Laws.{two_octets}
 use Rattle.mppe_pieces.specs.declared.Walk.{Walk}
 use Rattle.mppe_walk.specs.declared.WalkRead.{WalkRead}
 use Rattle.mppe_walk.specs.Walk.{key_octets, state_octets, fed_octets, walk_length, rest_octets, walk_octets, rest_put, front_read, walk_in, no_walk, walk_read}

@@ -8,9 +8,9 @@ use Rattle.answer.specs.Answer.{done, not_record, first_of, on_done}
 use Rattle.answer.specs.Laws.{clear, right, right_length}
 use Rattle.octets.specs.Octets.{Octets, big_endian, pair_at}
 use Rattle.rc4.specs.Cipher.{box}
-use Rattle.rc4.specs.Permutation.{Sized as StateSized}
+use Rattle.rc4.proofs.Permutation.{Sized as StateSized}
 use Rattle.mppe_record.specs.Record.{yes_number, no_choice, record_length, record_octets, record_read}
-use Rattle.mppe_record.specs.Laws.{yes_back, yes_known, pair_back, choice_is, Sized as LinkSized, record_octets_length, reads_back as record-back, writes_back as record-kept}
+use Rattle.mppe_record.proofs.Laws.{yes_back, yes_known, pair_back, choice_is, Sized as LinkSized, record_octets_length, reads_back as record-back, writes_back as record-kept}
 use Rattle.mppe.specs.declared.Link.{Link}
 use Rattle.mppe_pieces.specs.declared.Walk.{Walk}
 use Rattle.mppe_pieces.specs.Walk.{over}

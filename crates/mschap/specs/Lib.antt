@@ -3,5 +3,3 @@ pub mod Lengths
 pub mod Name
 pub mod Mschap
 pub mod Answers
--- laws, proved from these
-pub mod Laws

@@ -1,7 +1,7 @@
 -- MS-CHAPv2's hashes, responses and authenticator string (RFC 2759, sections 8.1 to 8.8), as 01, "MS-CHAPv2", condenses them.
 use Rattle.std.specs.Prelude.{List, [], ◌∷◌, ◌++◌, ℕ, ◌/◌, ◌%◌, take, drop, replicate, get_or}
 use Rattle.md4.specs.Md4.{md4}
-use Rattle.sha1.specs.Sha1.{sha1}
+use Rattle.sha_1.specs.Sha1.{sha1}
 use Rattle.des.specs.Des.{encrypted}
 use Rattle.mschap.specs.Lengths.{challenge_hash_length}
 use Rattle.mschap.specs.Name.{hashed_name}

@@ -1,208 +1,388 @@
--- From the steps of the code to what the calls answer.
-use mathlib.Core.Path.{◌≡◌, refl, sym, ap, ◌∙◌}
-use mathlib.Core.Bool.{Bool, true, false, not, ◌||◌}
+-- Laws of the packets, which follow from the definitions alone: what is written reads back, what is read is written the same again,
+-- and padding changes nothing.
+use Rattle.std.specs.Prelude.{◌≡◌, Bool, true, false, not, ◌||◌, ℕ, zero, suc, ◌+◌, ◌-◌, ◌/◌, ◌%◌, ◌≤◌, ◌<◌, eqb, ltb, take, get_or, replicate}
+use Rattle.std.proofs.Math.Path.{refl, sym, ap}
+use Rattle.std.proofs.Common.{◌∙◌, suc-ne-zero, length-drop, take_at, take-add, take-suc, drop_at, get_or-take, length-take-le}
 use mathlib.Core.List.{List, [], ◌∷◌, ◌++◌, append_assoc, append-nil}
-use Prim.Native.Nat.{ℕ, zero, suc, ◌+◌, ◌-◌, ◌/◌, ◌%◌, ◌≤◌, ◌<◌}
-use native.Mathlib.Numerals.{add-one}
+use Rattle.std.proofs.Math.Decide.{dec_le}
 use native.Mathlib.Omega.{arith}
-use lib.ListN.{length, take, drop, get_or, replicate, length-append, length-drop, drop_of_length-le}
-use lib.Seq.{take_all, take-append_seam, drop-cons, drop-drop, drop-append-add, length-take-le}
-use borrow.Author.Tests.{lt-ltb, le-ltb, eq-eqb, ne_eqb}
-use Rattle.answer.specs.Answer.{done, shape, room, size, on_done}
-use Rattle.answer.specs.Laws.{not_done}
-use Rattle.octets.specs.Octets.{written, written_at, onward}
-use Rattle.octets.specs.Laws.{copy_fits, drop_zeros, append_more}
+use Rattle.std.proofs.Math.ListN.{length, drop, length-append}
+use Rattle.std.proofs.lemmas.List.{take-append-le, drop-append-le}
+use Rattle.std.proofs.Math.Seq.{take-append_seam, drop-drop}
+use borrow.Author.Tests.{ltb-false, lt-ltb, eqb-true, not-false, le-ltb, eq-eqb}
+use Rattle.answer.specs.Answer.{done, shape, size, pick, on_done, wrong}
+use Rattle.answer.specs.Laws.{clear}
+use Rattle.octets.specs.Octets.{Octets, written}
 use Rattle.mschap_packets.specs.declared.Kind.{Kind}
 use Rattle.mschap_packets.specs.declared.Kind.TheVariants as kinds
 use Rattle.mschap_packets.specs.declared.Challenge.{Challenge}
 use Rattle.mschap_packets.specs.declared.Response.{Response}
-use Rattle.mschap_packets.specs.Packet.{longest_name, packet_code, value_size, least_length, header, packet_of, response_value, part, length_field, reserved, any_set, read_code, challenge_read, response_read, name_of, name_at, write_code, write_out, challenge_code, challenge_out, response_code, response_out}
-use Rattle.mschap_packets.specs.Laws.{earlier, length_packet, set_append}
+use Rattle.mschap_packets.specs.Packet.{challenge_length, response_length, longest_name, header_length, packet_code, value_size, least_length, header, packet_of, response_value, part, length_field, reserved, any_set, read_rows, read_code, challenge_read, response_read, name_of, name_at, write_rows, write_code, write_out, challenge_code, challenge_out, response_code, response_out}
 
--- octets looked at one by one: one that is not zero, the next, the end
-pub set_found : (l : List ℕ) (i : ℕ) → any_set l ≡ any_set (drop i l) → (get_or l i 0 ≡ 0 → ⊥) → i < length l → true ≡ any_set l
-set_found l i e n h = sym (e ∙ rw (drop-cons l i 0 h, ne_eqb (get_or l i 0) 0 n))
+-- an earlier row of the same code changes nothing
+pub earlier : (t : Bool) (n : ℕ) → pick t n n ≡ n
+earlier true n = refl
+earlier false n = refl
 
-pub set_next : (l : List ℕ) (i : ℕ) → any_set l ≡ any_set (drop i l) → get_or l i 0 ≡ 0 → i < length l → any_set l ≡ any_set (drop (i + 1) l)
-set_next l i e z h = e ∙ rw (drop-cons l i 0 h, eq-eqb (get_or l i 0) 0 z, add-one)
+-- a packet that names too small a length
+pub read_least : {least n : ℕ} (kind : Kind) (packet : List ℕ) → least ≡ least_length kind → n ≡ length_field packet → n < least
+    → shape ≡ read_code kind packet
+unfolding read_code
+read_least kind packet el en h = simp (lt-ltb (length_field packet) (least_length kind) (omega arith), earlier)
 
-pub set_none : (l : List ℕ) (i : ℕ) → any_set l ≡ any_set (drop i l) → length l ≤ i → false ≡ any_set l
-set_none l i e h = sym (e ∙ rw (drop_of_length-le l {i = i} h))
+-- what holds of a packet to which no row of 1 applies
+pub record Shaped (kind : Kind) (packet : List ℕ) : Type 0 where
+  pub code : get_or packet 0 0 ≡ packet_code kind
+  pub size : get_or packet 4 0 ≡ value_size kind
+  pub least : least_length kind ≤ length_field packet
+  pub inside : length_field packet ≤ length packet
+  pub unset : any_set (reserved kind packet) ≡ false
 
--- a Response's reserved octets stand in two places
-pub reserved_two : {s t : Bool} (kind : Kind) (packet : List ℕ) → kind ≡ kinds.Response → s ≡ any_set (part 21 8 packet)
-    → t ≡ any_set (part 53 1 packet) → s || t ≡ any_set (reserved kind packet)
-reserved_two kind packet e es et = rw (e, es, et) (sym (set_append (part 21 8 packet) (part 53 1 packet)))
+-- its name is too long, or not
+pub read_name : {least n : ℕ} {t : Bool} (kind : Kind) (packet : List ℕ) → Shaped kind packet → least ≡ least_length kind
+    → n ≡ length_field packet → ltb longest_name (n - least) ≡ t → pick t size done ≡ read_code kind packet
+unfolding read_code
+read_name kind packet shaped el en ht =
+    let long = le-ltb (length packet) (least_length kind) (omega (arith, shaped.least, shaped.inside)) in
+    let code = eq-eqb (get_or packet 0 0) (packet_code kind) shaped.code in
+    let size = eq-eqb (get_or packet 4 0) (value_size kind) shaped.size in
+    let least = le-ltb (length_field packet) (least_length kind) shaped.least in
+    let inside = le-ltb (length packet) (length_field packet) shaped.inside in
+    rw (long, code, size, least, inside, shaped.unset, ← en, ← el, ht)
 
--- octets that fill their place
-pub filled : {r : List ℕ} (n : ℕ) (q : List ℕ) → r ≡ written (take n q) (replicate n 0) → length q ≡ n → r ≡ q
-filled n q e h =
-    let none : n - n ≡ 0 = omega arith in
-    e ∙ rw (take_all n q (omega arith), h, drop_zeros, none, append-nil)
+-- both tests fail
+neither : (a b : Bool) → a || b ≡ false → (a ≡ false) × (b ≡ false)
+neither true b h = (h, cc)
+neither false b h = (refl, h)
 
--- a part of a packet copied
-pub part_copied : {r : List ℕ} (at n : ℕ) (packet : List ℕ) → r ≡ written (take n (part at n packet)) (replicate n 0)
-    → at + n ≤ length packet → r ≡ part at n packet
-part_copied at n packet e h =
-    filled n (part at n packet) e (length-take-le n (drop at packet) (omega (arith, length-drop at packet)))
+-- what holds of a packet that is read
+pub read_done : (kind : Kind) (packet : List ℕ) → read_code kind packet ≡ done
+    → Shaped kind packet × (length_field packet - least_length kind ≤ longest_name)
+unfolding read_code
+read_done kind packet h =
+    let coded = (clear shape (read_rows kind packet) refl h).1 in
+    let sized = coded.1 in
+    let least = sized.1 in
+    let inside = least.1 in (
+      record {
+        code = eqb-true _ _ (not-false _ coded.0);
+        size = eqb-true _ _ (not-false _ sized.0);
+        least = ltb-false _ _ least.0;
+        inside = ltb-false _ _ inside.0;
+        unset = inside.1.0;
+      },
+      ltb-false _ _ (clear size (read_rows kind packet) refl h).0,
+    )
 
--- the octets of a header
-pub header_laid : {code size : ℕ} (kind : Kind) (identifier n : ℕ) → code ≡ packet_code kind → size ≡ value_size kind
-    → code ∷ identifier ∷ n / 256 % 256 ∷ n % 256 ∷ size ∷ [] ≡ header kind identifier n
-unfolding header
-header_laid kind identifier n ec es =
-    let last : n / 1 ≡ n = omega arith in
-    rw (ec, es, last)
+-- how long a packet is
+pub length_packet : (kind : Kind) (identifier : ℕ) (value name : List ℕ) → length value ≡ value_size kind
+    → length (packet_of kind identifier value name) ≡ least_length kind + length name
+unfolding packet_of header
+length_packet kind identifier value name h = simp length-append (omega arith)
 
--- a Response's value, from its two parts
-pub value_laid : {v₁ v₂ : List ℕ} (peer response : List ℕ) → v₁ ≡ written (take 49 peer) (replicate 49 0)
-    → v₂ ≡ written_at 24 (take (length v₁ - 24) response) v₁ → length peer ≡ 16 → length response ≡ 24 → v₂ ≡ response_value peer response
+-- a packet, and whatever stands behind it
+module _ (kind : Kind) (identifier : ℕ) (value name rest packet : List ℕ) (e : packet ≡ packet_of kind identifier value name ++ rest)
+    (named : length name ≤ longest_name) where
+  -- what its header says: the code, the identifier, the value's size, and the packet's own length
+  fixed_fields : (get_or packet 0 0 ≡ packet_code kind) × (get_or packet 1 0 ≡ identifier) × (get_or packet 4 0 ≡ value_size kind)
+  unfolding packet_of header
+  fixed_fields = rw e (refl, refl, refl)
+
+  length_named : length_field packet ≡ least_length kind + length name
+  unfolding packet_of header
+  length_named = ap length_field e ∙ go kind
+    where
+      go : (kind : Kind) → length_field (packet_of kind identifier value name ++ rest) ≡ least_length kind + length name
+      go kinds.Challenge = omega arith
+      go kinds.Response = omega arith
+
+  -- what stands behind it
+  behind : drop 5 packet ≡ value ++ (name ++ rest)
+  unfolding packet_of header
+  behind = ap (drop 5) e ∙ append_assoc value name rest
+
+  -- a part of the value
+  value_part : (front x tail : List ℕ) (k n : ℕ) → value ≡ front ++ (x ++ tail) → length front ≡ k → length x ≡ n
+      → part (5 + k) n packet ≡ x
+  value_part front x tail k n ev hf hx =
+      let more : List ℕ = name ++ rest in
+      let split : value ++ more ≡ front ++ (x ++ (tail ++ more)) = rw ev (simp append_assoc) in
+      rw (← drop-drop k 5 packet, behind, split, drop_at front (x ++ (tail ++ more)) k hf, take_at x (tail ++ more) n hx)
+
+  -- it is read where its reserved octets are zeros ..
+  code_back : length value ≡ value_size kind → any_set (reserved kind packet) ≡ false → read_code kind packet ≡ done
+  code_back hv hr =
+      let whole = ap length e ∙ length-append (packet_of kind identifier value name) rest in
+      let long : least_length kind + length name ≤ length packet = omega (arith, whole, length_packet kind identifier value name hv) in
+      let n = length_named in
+      let f = fixed_fields in
+      let short = le-ltb longest_name (length_field packet - least_length kind) (omega arith) in
+      let shaped : Shaped kind packet = record { code = f.0; size = f.2; least = omega arith; inside = omega arith; unset = hr } in
+      sym (read_name kind packet shaped refl refl short)
+
+  -- .. and so is its name
+  name_back : length value ≡ value_size kind → read_code kind packet ≡ done → name_of kind packet ≡ name
+  unfolding name_of
+  name_back hv hr =
+      let n = length_named in
+      let split : drop (value_size kind) (drop 5 packet) ≡ name ++ rest = rw behind (drop_at value (name ++ rest) (value_size kind) hv) in
+      rw (hr, ← drop-drop (value_size kind) 5 packet, split) (take_at name rest (length_field packet - least_length kind) (omega arith))
+
+-- what a call that answered 0 wrote: nothing was wrong, the name was not too long, and the packet stands in front
+written_done : (t : Bool) (packet name out : List ℕ) → write_code t packet name out ≡ done
+    → (t ≡ false) × (length name ≤ longest_name) × (write_out t packet name out ≡ packet ++ drop (length packet) out)
+unfolding write_code write_out
+written_done t packet name out h =
+    let rows = clear size (write_rows t packet name out) refl h in
+    (rows.0, ltb-false _ _ rows.1.0, rw h)
+
+-- a Challenge that a call wrote reads back to the same fields and name, whatever the buffer holds behind it
+pub challenge_reads_back : (identifier : ℕ) (challenge name out : List ℕ) → challenge_code identifier challenge name out ≡ done
+    → (◌≡◌ {A = Challenge}
+    (challenge_read (challenge_out identifier challenge name out))
+    (record { answer = done; identifier = identifier; value = challenge }))
+    × (name_of kinds.Challenge (challenge_out identifier challenge name out) ≡ name)
+unfolding challenge_code challenge_out challenge_read
+challenge_reads_back identifier challenge name out h =
+    let packet : List ℕ = packet_of kinds.Challenge identifier challenge name in
+    let rest : List ℕ = drop (length packet) out in
+    let out' : List ℕ = challenge_out identifier challenge name out in
+    let w = written_done (wrong challenge_length challenge) packet name out h in
+    let size : length challenge ≡ 16 = eqb-true (length challenge) 16 (not-false _ w.0) in
+    let code = code_back kinds.Challenge identifier challenge name rest out' w.2 w.1 size refl in
+    let id = (fixed_fields kinds.Challenge identifier challenge name rest out' w.2 w.1).1 in
+    let part-is = value_part kinds.Challenge identifier challenge name rest out' w.2 w.1 in
+    let value = part-is [] challenge [] 0 16 (sym (append-nil challenge)) refl size in
+    (rw (code, id, value), name_back kinds.Challenge identifier challenge name rest out' w.2 w.1 size code)
+
+-- the parts of a Response's value: what stands in front of each, and behind it
+value_parts : (peer response : List ℕ)
+    → (response_value peer response ≡ [] ++ (peer ++ (replicate 8 0 ++ response ++ replicate 1 0)))
+    × (response_value peer response ≡ peer ++ (replicate 8 0 ++ (response ++ replicate 1 0)))
+    × (response_value peer response ≡ (peer ++ replicate 8 0) ++ (response ++ replicate 1 0))
+    × (response_value peer response ≡ (peer ++ replicate 8 0 ++ response) ++ (replicate 1 0 ++ []))
 unfolding response_value
-value_laid {v₁} peer response e₁ e₂ hp hr =
-    let front : length (peer ++ replicate 8 0) ≡ 24 = length-append peer (replicate 8 0) ∙ omega arith in
-    let all : take 49 peer ≡ peer = take_all 49 peer (omega arith) in
-    let laid : v₁ ≡ (peer ++ replicate 8 0) ++ replicate 25 0 = e₁ ∙ rw (all, hp, append_assoc) in
-    append_more (peer ++ replicate 8 0) response 24 25 laid e₂ (sym front) (omega arith) ∙ rw hr
+value_parts peer response = (simp append_assoc, simp append_assoc, simp append_assoc, refl)
 
--- a packet's tests, one by one
-pub read_short : {least : ℕ} (kind : Kind) (packet : List ℕ) → least ≡ least_length kind → length packet < least
-    → shape ≡ read_code kind packet
-unfolding read_code
-read_short kind packet e h = rw (lt-ltb (length packet) (least_length kind) (omega arith))
+-- .. and so does a Response
+pub response_reads_back : (identifier : ℕ) (peer response name out : List ℕ) → response_code identifier peer response name out ≡ done
+    → (◌≡◌ {A = Response}
+    (response_read (response_out identifier peer response name out))
+    (record { answer = done; identifier = identifier; peer_challenge = peer; nt_response = response }))
+    × (name_of kinds.Response (response_out identifier peer response name out) ≡ name)
+unfolding response_code response_out response_read
+response_reads_back identifier peer response name out h =
+    let value : List ℕ = response_value peer response in
+    let packet : List ℕ = packet_of kinds.Response identifier value name in
+    let rest : List ℕ = drop (length packet) out in
+    let out' : List ℕ = response_out identifier peer response name out in
+    let w = written_done (wrong challenge_length peer || wrong response_length response) packet name out h in
+    let right = neither (wrong challenge_length peer) (wrong response_length response) w.0 in
+    let lp : length peer ≡ 16 = eqb-true (length peer) 16 (not-false _ right.0) in
+    let lr : length response ≡ 24 = eqb-true (length response) 24 (not-false _ right.1) in
+    let parts = value_parts peer response in
+    let l₂ : length (peer ++ replicate 8 0) ≡ 24 = length-append peer (replicate 8 0) ∙ omega arith in
+    let l₃ : length (peer ++ replicate 8 0 ++ response) ≡ 48 = length-append (peer ++ replicate 8 0) response ∙ omega arith in
+    let lv : length value ≡ 49 = ap length parts.3 ∙ length-append (peer ++ replicate 8 0 ++ response) (replicate 1 0) ∙ omega arith in
+    let part-is = value_part kinds.Response identifier value name rest out' w.2 w.1 in
+    let zeros = part-is peer (replicate 8 0) (response ++ replicate 1 0) 16 8 parts.1 lp refl in
+    let flags = part-is (peer ++ replicate 8 0 ++ response) (replicate 1 0) [] 48 1 parts.3 l₃ refl in
+    let clear : any_set (reserved kinds.Response out') ≡ false = rw (zeros, flags) in
+    let code = code_back kinds.Response identifier value name rest out' w.2 w.1 lv clear in
+    let id = (fixed_fields kinds.Response identifier value name rest out' w.2 w.1).1 in
+    let first = part-is [] peer (replicate 8 0 ++ response ++ replicate 1 0) 0 16 parts.0 refl lp in
+    let second = part-is (peer ++ replicate 8 0) response (replicate 1 0) 24 24 parts.2 l₂ lr in
+    (rw (code, id, first, second), name_back kinds.Response identifier value name rest out' w.2 w.1 lv code)
 
-pub read_packet_code : {code : ℕ} (kind : Kind) (packet : List ℕ) → code ≡ packet_code kind → (get_or packet 0 0 ≡ code → ⊥)
-    → shape ≡ read_code kind packet
-unfolding read_code
-read_packet_code kind packet e n = simp (ne_eqb (get_or packet 0 0) (packet_code kind) (λ h. n (h ∙ sym e)), earlier)
+-- reserved octets that are clear are zeros
+pub set_append : (a b : List ℕ) → any_set (a ++ b) ≡ any_set a || any_set b
+set_append [] b = refl
+set_append (x ∷ a) b = rw (set_append a b) (sym (or_assoc (not (eqb x 0)) (any_set a) (any_set b)))
+  where
+    or_assoc : (x y z : Bool) → (x || y) || z ≡ x || (y || z)
+    or_assoc true y z = refl
+    or_assoc false y z = refl
 
-pub read_size : {size : ℕ} (kind : Kind) (packet : List ℕ) → size ≡ value_size kind → (get_or packet 4 0 ≡ size → ⊥)
-    → shape ≡ read_code kind packet
-unfolding read_code
-read_size kind packet e n = simp (ne_eqb (get_or packet 4 0) (value_size kind) (λ h. n (h ∙ sym e)), earlier)
+zeros : (l : List ℕ) → any_set l ≡ false → l ≡ replicate (length l) 0
+zeros [] h = refl
+zeros (x ∷ l) h =
+    let split = neither (not (eqb x 0)) (any_set l) h in
+    rw (eqb-true x 0 (not-false _ split.0), ← zeros l split.1)
 
-pub read_beyond : {n : ℕ} (kind : Kind) (packet : List ℕ) → n ≡ length_field packet → length packet < n → shape ≡ read_code kind packet
-unfolding read_code
-read_beyond kind packet en h = simp (lt-ltb (length packet) (length_field packet) (omega arith), earlier)
+length_part : (at n : ℕ) (packet : List ℕ) → at + n ≤ length packet → length (part at n packet) ≡ n
+length_part at n packet h = length-take-le n (drop at packet) (omega (arith, length-drop at packet))
 
-pub read_reserved : {t : Bool} (kind : Kind) (packet : List ℕ) → t ≡ any_set (reserved kind packet) → t ≡ true
-    → shape ≡ read_code kind packet
-unfolding read_code
-read_reserved kind packet e h = simp (sym e ∙ h, earlier)
+-- a Response's value is made of its parts
+value_again : (packet : List ℕ) → Shaped kinds.Response packet
+    → part header_length 49 packet ≡ response_value (part header_length 16 packet) (part 29 24 packet)
+unfolding response_value
+value_again packet shaped =
+    let long : 54 ≤ length packet = omega (arith, shaped.least, shaped.inside) in
+    let clear = neither _ _ (sym (set_append (part 21 8 packet) (part 53 1 packet)) ∙ shaped.unset) in
+    let eight : part 21 8 packet ≡ replicate 8 0 = zeros _ clear.0 ∙ rw (length_part 21 8 packet (omega arith)) in
+    let one : part 53 1 packet ≡ replicate 1 0 = zeros _ clear.1 ∙ rw (length_part 53 1 packet (omega arith)) in
+    let cut : part 5 49 packet ≡ part 5 16 packet ++ part 21 8 packet ++ part 29 24 packet ++ part 53 1 packet =
+    take-add 48 1 (drop 5 packet)
+    ∙ rw (take-add 24 24 (drop 5 packet), take-add 16 8 (drop 5 packet), drop-drop 16 5 packet, drop-drop 24 5 packet, drop-drop 48 5 packet) in
+    cut ∙ rw (eight, one)
 
--- what is read of a Challenge
-pub challenge_refused : {code : ℕ} (packet : List ℕ) → code ≡ read_code kinds.Challenge packet → (code ≡ done → ⊥)
-    → ◌≡◌ {A = Challenge} (record { answer = code; identifier = 0; value = replicate 16 0 }) (challenge_read packet)
-unfolding challenge_read
-challenge_refused packet e h = rw e (sym (not_done _ _ _ (λ z. h (e ∙ z))))
+-- a header is made of its fields
+header_again : (kind : Kind) (packet : List ℕ) → Octets packet → Shaped kind packet
+    → take header_length packet ≡ header kind (get_or packet 1 0) (length_field packet)
+unfolding header
+header_again kind packet octets shaped =
+    let long : 5 ≤ length packet = omega (arith, shaped.least, shaped.inside) in
+    let high : length_field packet / 256 % 256 ≡ get_or packet 2 0 = omega (arith, octets 2, octets 3) in
+    let low : length_field packet / 1 % 256 ≡ get_or packet 3 0 = omega (arith, octets 2, octets 3) in
+    let more : (i : ℕ) → i < 5 → take (suc i) packet ≡ take i packet ++ (get_or packet i 0 ∷ []) = λ i h. take-suc packet i 0 (omega arith) in
+    rw (high, low, ← shaped.code, ← shaped.size, more 4 (omega arith), more 3 (omega arith), more 2 (omega arith), more 1 (omega arith), more 0 (omega arith))
 
-pub challenge_done : {code : ℕ} {value : List ℕ} (packet : List ℕ) → code ≡ read_code kinds.Challenge packet → code ≡ done
-    → value ≡ part 5 16 packet
-    → ◌≡◌ {A = Challenge} (record { answer = done; identifier = get_or packet 1 0; value = value }) (challenge_read packet)
-unfolding challenge_read
-challenge_done packet e h ev = rw (sym e ∙ h, ev)
+-- a packet of octets that is read is, up to the length that it names, the packet that is made of its identifier, value and name
+pub read_again : (kind : Kind) (packet : List ℕ) → Octets packet → read_code kind packet ≡ done
+    → take (length_field packet) packet ≡ packet_of kind (get_or packet 1 0) (part header_length (value_size kind) packet) (name_of kind packet)
+unfolding packet_of name_of
+read_again kind packet octets h =
+    let shaped = (read_done kind packet h).0 in
+    let least = shaped.least in
+    let inside = shaped.inside in
+    let size : ℕ = value_size kind in
+    let rest : ℕ = length_field packet - least_length kind in
+    let named : length (part (5 + size) rest packet) ≡ rest = length_part (5 + size) rest packet (omega arith) in
+    let whole : length_field packet ≡ 5 + (size + rest) = omega arith in
+    let split : take (5 + (size + rest)) packet ≡ take 5 packet ++ (part 5 size packet ++ part (5 + size) rest packet) =
+    take-add 5 (size + rest) packet ∙ rw (take-add size rest (drop 5 packet), drop-drop size 5 packet) in
+    let all : least_length kind + length (part (5 + size) rest packet) ≡ length_field packet = omega arith in
+    ap (λ (n : ℕ). take n packet) whole ∙ split ∙ rw (h, header_again kind packet octets shaped, all, append_assoc)
 
--- what is read of a Response
-pub response_refused : {code : ℕ} (packet : List ℕ) → code ≡ read_code kinds.Response packet → (code ≡ done → ⊥)
-    → ◌≡◌ {A = Response}
-    (record { answer = code; identifier = 0; peer_challenge = replicate 16 0; nt_response = replicate 24 0 })
-    (response_read packet)
-unfolding response_read
-response_refused packet e h = rw e (sym (not_done _ _ _ (λ z. h (e ∙ z))))
+-- .. and that is written where there is room for it
+write_again : {wrong_value : Bool} (kind : Kind) (identifier : ℕ) (value packet out : List ℕ) → Octets packet
+    → read_code kind packet ≡ done → get_or packet 1 0 ≡ identifier → part header_length (value_size kind) packet ≡ value → wrong_value ≡ false
+    → length_field packet ≤ length out
+    → (write_code wrong_value (packet_of kind identifier value (name_of kind packet)) (name_of kind packet) out ≡ done)
+    × (write_out wrong_value (packet_of kind identifier value (name_of kind packet)) (name_of kind packet) out
+    ≡ written (take (length_field packet) packet) out)
+unfolding write_code write_out name_of
+write_again kind identifier value packet out octets h ei ev right room =
+    let shaped = (read_done kind packet h).0 in
+    let least = shaped.least in
+    let inside = shaped.inside in
+    let short = (read_done kind packet h).1 in
+    let rest : ℕ = length_field packet - least_length kind in
+    let named : length (name_of kind packet) ≡ rest = rw h (length_part (least_length kind) rest packet (omega arith)) in
+    let made : packet_of kind identifier value (name_of kind packet) ≡ take (length_field packet) packet =
+    sym (read_again kind packet octets h ∙ rw (ei, ev)) in
+    let whole : length (take (length_field packet) packet) ≡ length_field packet = length-take-le (length_field packet) packet inside in
+    let short-name = le-ltb longest_name (length (name_of kind packet)) (omega arith) in
+    let fits = le-ltb (length out) (length (take (length_field packet) packet)) (omega arith) in
+    rw (right, made, short-name, fits) (refl, refl)
 
-pub response_done : {code : ℕ} {peer response : List ℕ} (packet : List ℕ) → code ≡ read_code kinds.Response packet → code ≡ done
-    → peer ≡ part 5 16 packet → response ≡ part 29 24 packet
-    → ◌≡◌ {A = Response}
-    (record { answer = done; identifier = get_or packet 1 0; peer_challenge = peer; nt_response = response })
-    (response_read packet)
-unfolding response_read
-response_done packet e h ep er = rw (sym e ∙ h, ep, er)
+-- what a call that answered 0 gave
+given : {A : Type 0} {r : A} (answer-of : A → ℕ) (n : ℕ) (result refused : A) → answer-of refused ≡ n → on_done n result refused ≡ r
+    → answer-of r ≡ done → (n ≡ done) × (result ≡ r)
+given answer-of zero result refused er e z = (refl, e)
+given answer-of (suc n) result refused er e z = absurd (suc-ne-zero n (sym er ∙ ap answer-of e ∙ z))
 
--- the name of a packet, and the place where it begins
-pub name_refused : {code : ℕ} (kind : Kind) (packet : List ℕ) (place : ℕ × ℕ) → code ≡ read_code kind packet → (code ≡ done → ⊥)
-    → ([] ≡ name_of kind packet) × (place ≡ onward (name_at kind packet) place)
-unfolding name_of name_at
-name_refused kind packet place e h =
-    let front : 0 ≡ name_at kind packet = sym (not_done _ _ _ (λ z. h (e ∙ z))) in
-    (sym (not_done _ _ _ (λ z. h (e ∙ z))), ap (λ (n : ℕ). (place.0, n)) (omega arith))
+-- a Challenge of octets that a call read is written again as it stood, up to its length, from the fields and the name that were read
+pub challenge_writes_again : (identifier : ℕ) (challenge packet out : List ℕ) → Octets packet
+    → ◌≡◌ {A = Challenge} (challenge_read packet) (record { answer = done; identifier = identifier; value = challenge })
+    → length_field packet ≤ length out
+    → (challenge_code identifier challenge (name_of kinds.Challenge packet) out ≡ done)
+    × (challenge_out identifier challenge (name_of kinds.Challenge packet) out ≡ written (take (length_field packet) packet) out)
+unfolding challenge_read challenge_code challenge_out
+challenge_writes_again identifier challenge packet out octets e room =
+    let r = given (λ (r : Challenge). r.answer) (read_code kinds.Challenge packet) _ _ refl e refl in
+    let shaped = (read_done kinds.Challenge packet r.0).0 in
+    let long : 21 ≤ length packet = omega (arith, shaped.least, shaped.inside) in
+    let id : get_or packet 1 0 ≡ identifier = ap (λ (r : Challenge). r.identifier) r.1 in
+    let value : part 5 16 packet ≡ challenge = ap (λ (r : Challenge). r.value) r.1 in
+    let size : length challenge ≡ 16 = ap length (sym value) ∙ length_part 5 16 packet (omega arith) in
+    write_again kinds.Challenge identifier challenge packet out octets r.0 id value (rw (eq-eqb (length challenge) 16 size)) room
 
-pub name_done : {code start end : ℕ} (kind : Kind) (packet : List ℕ) (place : ℕ × ℕ) → code ≡ read_code kind packet → code ≡ done
-    → start ≡ least_length kind → end ≡ length_field packet
-    → (part start (end - start) packet ≡ name_of kind packet) × (onward start place ≡ onward (name_at kind packet) place)
-unfolding name_of name_at
-name_done kind packet place e h es ee = (rw (sym e ∙ h, es, ee), rw (sym e ∙ h, es))
+-- .. and so is a Response
+pub response_writes_again : (identifier : ℕ) (peer response packet out : List ℕ) → Octets packet
+    → ◌≡◌ {A = Response} (response_read packet) (record { answer = done; identifier = identifier; peer_challenge = peer; nt_response = response })
+    → length_field packet ≤ length out
+    → (response_code identifier peer response (name_of kinds.Response packet) out ≡ done)
+    × (response_out identifier peer response (name_of kinds.Response packet) out ≡ written (take (length_field packet) packet) out)
+unfolding response_read response_code response_out
+response_writes_again identifier peer response packet out octets e room =
+    let r = given (λ (r : Response). r.answer) (read_code kinds.Response packet) _ _ refl e refl in
+    let shaped = (read_done kinds.Response packet r.0).0 in
+    let long : 54 ≤ length packet = omega (arith, shaped.least, shaped.inside) in
+    let id : get_or packet 1 0 ≡ identifier = ap (λ (r : Response). r.identifier) r.1 in
+    let first : part 5 16 packet ≡ peer = ap (λ (r : Response). r.peer_challenge) r.1 in
+    let second : part 29 24 packet ≡ response = ap (λ (r : Response). r.nt_response) r.1 in
+    let l₁ : length peer ≡ 16 = ap length (sym first) ∙ length_part 5 16 packet (omega arith) in
+    let l₂ : length response ≡ 24 = ap length (sym second) ∙ length_part 29 24 packet (omega arith) in
+    let value : part 5 49 packet ≡ response_value peer response = value_again packet shaped ∙ rw (first, second) in
+    let right : wrong challenge_length peer || wrong response_length response ≡ false =
+    rw (eq-eqb (length peer) 16 l₁, eq-eqb (length response) 24 l₂) in
+    write_again kinds.Response identifier (response_value peer response) packet out octets r.0 id value right room
 
--- octets written behind others that stand in front of a buffer
-written_more : {b b' : List ℕ} (l q out : List ℕ) (at : ℕ) → b ≡ written l out → b' ≡ written_at at (take (length b - at) q) b
-    → length l ≡ at → at + length q ≤ length out → b' ≡ written (l ++ q) out
-written_more {b} l q out at e e' h room =
-    let rest : List ℕ = drop (length l) out in
-    let lb : length b ≡ length out = ap length e ∙ length-append l rest ∙ omega (arith, length-drop (length l) out) in
-    let behind : drop (length l + length q) (l ++ rest) ≡ drop (length l + length q) out =
-    drop-append-add l rest (length q) ∙ drop-drop (length q) (length l) out in
-    e' ∙ copy_fits at q b (omega arith) ∙ rw (e, ← h, take-append_seam l rest, behind, length-append)
+-- results that are the same where they are given
+same_done : {A : Type 0} (n : ℕ) (result result' refused : A) → (n ≡ done → result ≡ result')
+    → on_done n result refused ≡ on_done n result' refused
+same_done zero result result' refused h = h refl
+same_done (suc n) result result' refused h = refl
 
--- what is written of a packet
-pub long_name : (packet name out : List ℕ) → longest_name < length name
-    → (size ≡ write_code false packet name out) × (out ≡ write_out false packet name out)
-unfolding write_code write_out
-long_name packet name out h = rw (lt-ltb longest_name (length name) h) (refl, refl)
+-- octets behind the length that a packet names are padding: with any of them every call answers the same, also where it refuses
+module _ (packet padding : List ℕ) (headed : header_length ≤ length packet) (inside : length_field packet ≤ length packet) where
+  octet_padded : (i : ℕ) → i < length packet → get_or (packet ++ padding) i 0 ≡ get_or packet i 0
+  octet_padded i h = sym (get_or-take (length packet) (packet ++ padding) i 0 h) ∙ rw (take-append_seam packet padding)
 
-pub no_room : {least : ℕ} (kind : Kind) (identifier : ℕ) (value name out : List ℕ) → length value ≡ value_size kind
-    → length name ≤ longest_name → least ≡ least_length kind → length out < least + length name
-    → (room ≡ write_code false (packet_of kind identifier value name) name out)
-    × (out ≡ write_out false (packet_of kind identifier value name) name out)
-unfolding write_code write_out
-no_room kind identifier value name out hv hn el h =
-    let all = length_packet kind identifier value name hv in
-    let short = lt-ltb (length out) (length (packet_of kind identifier value name)) (omega arith) in
-    rw (le-ltb longest_name (length name) hn, short) (refl, refl)
+  part_padded : (at n : ℕ) → at + n ≤ length packet → part at n (packet ++ padding) ≡ part at n packet
+  part_padded at n h =
+      rw (drop-append-le at packet padding (omega arith))
+      (take-append-le n (drop at packet) padding (omega (arith, length-drop at packet)))
 
-pub packet_written : {least : ℕ} {head out₁ out₂ out₃ : List ℕ} (kind : Kind) (identifier : ℕ) (value name out : List ℕ)
-    → length value ≡ value_size kind → length name ≤ longest_name → least ≡ least_length kind → least + length name ≤ length out
-    → head ≡ header kind identifier (least + length name)
-    → out₁ ≡ written (take (length out) head) out → out₂ ≡ written_at 5 (take (length out₁ - 5) value) out₁
-    → out₃ ≡ written_at least (take (length out₂ - least) name) out₂
-    → (done ≡ write_code false (packet_of kind identifier value name) name out)
-    × (out₃ ≡ write_out false (packet_of kind identifier value name) name out)
-unfolding write_code write_out packet_of header
-packet_written {least} {head} {out₁} kind identifier value name out hv hn el h eh e₁ e₂ e₃ =
-    let front : length head ≡ 5 = ap length eh in
-    let g₁ : out₁ ≡ written head out = e₁ ∙ rw (take_all (length out) head (omega arith)) in
-    let g₂ = written_more head value out 5 g₁ e₂ front (omega arith) in
-    let g₃ = written_more (head ++ value) name out least g₂ e₃ (length-append head value ∙ omega arith) (omega arith) in
-    let all = length_packet kind identifier value name hv in
-    let fits = le-ltb (length out) (length (packet_of kind identifier value name)) (omega arith) in
-    rw (le-ltb longest_name (length name) hn, fits) (refl, g₃ ∙ rw (eh, el))
+  reserved_padded : (kind : Kind) → least_length kind ≤ length packet → reserved kind (packet ++ padding) ≡ reserved kind packet
+  reserved_padded kinds.Challenge h = refl
+  reserved_padded kinds.Response h = rw (part_padded 21 8 (omega arith), part_padded 53 1 (omega arith))
 
--- what is written of a Challenge
-pub challenge_wrong : (identifier : ℕ) (challenge name out : List ℕ) → (length challenge ≡ 16 → ⊥)
-    → (size ≡ challenge_code identifier challenge name out) × (out ≡ challenge_out identifier challenge name out)
-unfolding challenge_code challenge_out write_code write_out
-challenge_wrong identifier challenge name out h = rw (ne_eqb (length challenge) 16 h) (refl, refl)
+  length_padded : length_field (packet ++ padding) ≡ length_field packet
+  length_padded = rw (octet_padded 2 (omega arith), octet_padded 3 (omega arith))
 
-pub challenge_passed : {code : ℕ} {out' : List ℕ} (identifier : ℕ) (challenge name out : List ℕ) → length challenge ≡ 16
-    → (code ≡ write_code false (packet_of kinds.Challenge identifier challenge name) name out)
-    × (out' ≡ write_out false (packet_of kinds.Challenge identifier challenge name) name out)
-    → (code ≡ challenge_code identifier challenge name out) × (out' ≡ challenge_out identifier challenge name out)
-unfolding challenge_code challenge_out
-challenge_passed identifier challenge name out h e = rw (eq-eqb (length challenge) 16 h) e
+  code_padded : (kind : Kind) → read_code kind (packet ++ padding) ≡ read_code kind packet
+  unfolding read_code
+  code_padded kind = go (dec_le (least_length kind) (length packet))
+    where
+      go : Dec (least_length kind ≤ length packet) → read_code kind (packet ++ padding) ≡ read_code kind packet
+      go (yes h) =
+          let more = length-append packet padding in
+          let long = le-ltb (length packet) (least_length kind) h in
+          let long' = le-ltb (length (packet ++ padding)) (least_length kind) (omega arith) in
+          let whole = le-ltb (length packet) (length_field packet) inside in
+          let whole' = le-ltb (length (packet ++ padding)) (length_field packet) (omega arith) in
+          rw (long, long', octet_padded 0 (omega arith), octet_padded 4 (omega arith), length_padded, whole, whole', reserved_padded kind h)
+      go (no h) =
+          let small : length_field packet < least_length kind = omega arith in
+          sym (read_least kind (packet ++ padding) refl (sym length_padded) small) ∙ read_least kind packet refl refl small
 
--- what is written of a Response
-pub peer_wrong : (identifier : ℕ) (peer response name out : List ℕ) → (length peer ≡ 16 → ⊥)
-    → (size ≡ response_code identifier peer response name out) × (out ≡ response_out identifier peer response name out)
-unfolding response_code response_out write_code write_out
-peer_wrong identifier peer response name out h = rw (ne_eqb (length peer) 16 h) (refl, refl)
+  valued : (kind : Kind) → read_code kind packet ≡ done → least_length kind ≤ length_field packet
+  valued kind h = (read_done kind packet h).0.least
 
-pub response_wrong : (identifier : ℕ) (peer response name out : List ℕ) → length peer ≡ 16 → (length response ≡ 24 → ⊥)
-    → (size ≡ response_code identifier peer response name out) × (out ≡ response_out identifier peer response name out)
-unfolding response_code response_out write_code write_out
-response_wrong identifier peer response name out h n = rw (eq-eqb (length peer) 16 h, ne_eqb (length response) 24 n) (refl, refl)
+  pub name_padded : (kind : Kind) → name_of kind (packet ++ padding) ≡ name_of kind packet
+  unfolding name_of
+  name_padded kind =
+      rw (code_padded kind, length_padded)
+      (same_done (read_code kind packet) _ _ _ (λ h.
+      part_padded (least_length kind) (length_field packet - least_length kind) (omega (arith, valued kind h))))
 
-pub response_passed : {code : ℕ} {value out' : List ℕ} (identifier : ℕ) (peer response name out : List ℕ) → length peer ≡ 16
-    → length response ≡ 24 → value ≡ response_value peer response
-    → (code ≡ write_code false (packet_of kinds.Response identifier value name) name out)
-    × (out' ≡ write_out false (packet_of kinds.Response identifier value name) name out)
-    → (code ≡ response_code identifier peer response name out) × (out' ≡ response_out identifier peer response name out)
-unfolding response_code response_out
-response_passed identifier peer response name out hp hr ev e =
-    rw (eq-eqb (length peer) 16 hp, eq-eqb (length response) 24 hr, ← ev) e
+  pub place_padded : (kind : Kind) → name_at kind (packet ++ padding) ≡ name_at kind packet
+  unfolding name_at
+  place_padded kind = rw (code_padded kind)
+
+  pub challenge_padded : challenge_read (packet ++ padding) ≡ challenge_read packet
+  unfolding challenge_read
+  challenge_padded =
+      rw (code_padded kinds.Challenge)
+      (same_done (read_code kinds.Challenge packet) _ _ _ (λ h.
+      rw (octet_padded 1 (omega arith), part_padded 5 16 (omega (arith, valued kinds.Challenge h)))))
+
+  pub response_padded : response_read (packet ++ padding) ≡ response_read packet
+  unfolding response_read
+  response_padded =
+      rw (code_padded kinds.Response)
+      (same_done (read_code kinds.Response packet) _ _ _ (λ h.
+      let long = valued kinds.Response h in
+      rw (octet_padded 1 (omega arith), part_padded 5 16 (omega arith), part_padded 29 24 (omega arith))))

@@ -1,7 +1,7 @@
 -- Challenge and Response packets (RFC 1994, section 4.1; RFC 2759, sections 3 and 4), as 01, "MS-CHAPv2", condenses them.
 use Rattle.std.specs.Prelude.{Bool, false, not, ◌||◌, List, [], ◌∷◌, ◌++◌, ℕ, ◌+◌, ◌*◌, ◌-◌, eqb, ltb, length, take, drop, get_or, replicate}
 use Rattle.answer.specs.Answer.{done, shape, room, size, first_of, on_done, wrong}
-use Rattle.octets.specs.Octets.{big_endian, pair_at, written}
+use Rattle.octets.specs.Octets.{big_endian, written}
 use Rattle.mschap_packets.specs.declared.Kind.{Kind}
 use Rattle.mschap_packets.specs.declared.Kind.TheVariants as kinds
 use Rattle.mschap_packets.specs.declared.Challenge.{Challenge}

@@ -12,7 +12,7 @@ use Rattle.answer.specs.Answer.{size}
 use Rattle.rc4.specs.declared.Keyed.{Keyed}
 use Rattle.rc4.specs.Cipher.{box, below, swap, round_j, round, rounds}
 use Rattle.rc4.specs.Inner.{OctetCells}
-use Rattle.rc4.specs.Permutation.{below_length}
+use Rattle.rc4.proofs.Permutation.{below_length}
 use Rattle.rc4.proofs.Boxes.{swap_octets}
 use Rattle.rc4.specs.Answers.{shortest_key, longest_key, keyed_answer}
 

@@ -13,7 +13,7 @@ use borrow.Author.Tests.{eq-eqb, ne_eqb, eqb-true, eqb-false}
 use Rattle.rc4.specs.declared.Rc4.{Rc4}
 use Rattle.rc4.specs.Cipher.{among, all_among, permutation, in_order, is_unkeyed}
 use Rattle.rc4.specs.Inner.{mark, Marked, Tells}
-use Rattle.rc4.specs.Permutation.{among_same}
+use Rattle.rc4.proofs.Permutation.{among_same}
 
 -- no cell is looked at
 pub marks_none : Marked [] (replicate 256 0)

@@ -12,7 +12,7 @@ use Rattle.octets.specs.Octets.{written}
 use Rattle.rc4.specs.declared.Rc4.{Rc4}
 use Rattle.rc4.specs.Cipher.{step, drawn, run, after}
 use Rattle.rc4.specs.Inner.{wrapped, xors, OctetCells, Finished}
-use Rattle.rc4.specs.Laws.{run_length, run_cut, after_cut}
+use Rattle.rc4.proofs.Laws.{run_length, run_cut, after_cut}
 use Rattle.rc4.proofs.Draws.{step_octets}
 
 -- s and out₀ are the state and the buffer where the run began, s' and out what they are

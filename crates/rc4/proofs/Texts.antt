@@ -15,7 +15,7 @@ use Rattle.rc4.specs.declared.Ran.{Ran}
 use Rattle.rc4.specs.Cipher.{box, rounds, key_schedule, run, after}
 use Rattle.rc4.specs.Inner.{wrapped, OctetCells, Ready, Finished}
 use Rattle.rc4.specs.Answers.{shortest_key, longest_key, key_rows, text_rows, run_code, run_answer, run_out, apply_code, apply_out, keyed_if, number, numbered_rows, number_rows, number_code, within_code, within_answer, within_out}
-use Rattle.rc4.specs.Laws.{run_length, run_cut, after_cut}
+use Rattle.rc4.proofs.Laws.{run_length, run_cut, after_cut}
 use Rattle.rc4.proofs.Draws.{unwrapped}
 
 -- a part from m on is what is left

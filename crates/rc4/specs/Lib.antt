@@ -2,8 +2,5 @@
 pub mod Cipher
 -- .. and what the calls answer.
 pub mod Answers
--- Laws, which follow from these.
-pub mod Laws
-pub mod Permutation
 -- What the contracts of private functions alone say: nothing of a public call rests on reading it.
 pub mod Inner

@@ -1,18 +1,18 @@
 -- The words of the schedule, a block's rounds, and the ways out of the call.
 use mathlib.Core.Path.{◌≡◌}
 use mathlib.Core.List.{List}
-use Prim.Native.Nat.{ℕ, ◌*◌, ◌-◌, ◌≤◌, ◌<◌}
+use Prim.Native.Nat.{ℕ, ◌-◌, ◌≤◌, ◌<◌}
 use native.Mathlib.Omega.{arith}
 use lib.Bits.{bit_xor}
 use lib.ListN.{length, take, get_or}
 use lib.Seq.{get_or-take}
 use borrow.Author.Tests.{lt-ltb, le-ltb}
-use Rattle.octets.specs.Octets.{word_be, longest_text}
+use Rattle.octets.specs.Octets.{longest_text}
 use Rattle.octets.specs.Words.{◌⊞◌}
 use Rattle.octets.specs.declared.Order.TheVariants.{HighestFirst}
 use Rattle.blocks.specs.Inner.{closed}
-use Rattle.blocks.specs.Laws.{add_swap, rounds_add, closed_alone}
-use Rattle.sha256.specs.Sha256.{ch, maj, Σ₀, Σ₁, k, late_word, round, added, compress, initial, octets_in, sha256, sha256_answer}
+use Rattle.blocks.specs.Laws.{add_swap, closed_alone}
+use Rattle.sha256.specs.Sha256.{ch, maj, Σ₀, Σ₁, k, late_word, round, compress, initial, octets_in, sha256, sha256_answer}
 use Rattle.sha256.specs.Inner.{refused_digest}
 use Rattle.sha256.specs.declared.State.{State}
 use Rattle.sha256.specs.declared.Digest.{Digest}

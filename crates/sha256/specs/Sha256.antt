@@ -1,7 +1,7 @@
 -- SHA-256, as FIPS 180-4 defines it.
-use Rattle.std.specs.Prelude.{List, [], ◌∷◌, ℕ, ◌*◌, ◌-◌, ◌/◌, ◌^◌, ltb, length, get_or, replicate}
+use Rattle.std.specs.Prelude.{List, [], ◌∷◌, ℕ, ◌-◌, ◌/◌, ◌^◌, ltb, length, get_or, replicate}
 use Rattle.std.specs.Int.Bits.{bit_and, bit_xor}
-use Rattle.answer.specs.Answer.{size, pick, first_of, on_done}
+use Rattle.answer.specs.Answer.{size, first_of, on_done}
 use Rattle.octets.specs.declared.Order.TheVariants.{HighestFirst}
 use Rattle.octets.specs.Octets.{words_of, longest_text}
 use Rattle.octets.specs.Words.{◌⊞◌, rotr, complement}

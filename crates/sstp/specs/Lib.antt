@@ -2,5 +2,3 @@
 pub mod Binding
 -- What only private functions promise.
 pub mod Inner
--- Laws.
-pub mod Laws

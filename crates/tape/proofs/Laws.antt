@@ -1,354 +1,395 @@
--- From the steps of the code to what the calls answer.
-use mathlib.Core.Path.{◌≡◌, refl, sym, ap, subst, ◌∙◌}
-use mathlib.Core.Bool.{Bool, true, false, not}
-use mathlib.Core.List.{List, [], ◌∷◌}
+-- What holds of groups, records and tapes, over the number of groups and the limit: `reads_back` and `writes_next` are the claims.
+use Rattle.std.specs.Prelude.{◌≡◌, Bool, true, false, ◌⊎◌, eqb, ltb, take}
+use Rattle.std.proofs.Math.Path.{refl, sym, ap}
+use Rattle.std.proofs.Common.{◌∙◌, take-append-drop, drop-drop}
+use Rattle.std.proofs.Math.Logic.{inl, inr}
+use mathlib.Core.List.{List, [], ◌∷◌, ◌++◌, append_assoc, append-nil}
 use Prim.Native.Nat.{ℕ, zero, suc, ◌+◌, ◌*◌, ◌-◌, ◌/◌, ◌%◌, ◌^◌, ◌<◌, ◌≤◌}
-use native.Mathlib.Numerals.{add-one}
 use native.Mathlib.Omega.{arith}
-use lib.Dec.{eqb}
-use lib.ListN.{length, take, drop, get_or, set, length-append, length-drop, drop_of_length-le}
-use lib.Seq.{length-take-le, take_all, take-length, drop-cons, drop-drop, get_or-drop}
-use borrow.Author.Tests.{lt-ltb, le-ltb, ltb-false, eq-eqb, ne_eqb}
-use Rattle.answer.specs.Answer.{done, shape, room, size, not_record, pick, outside, first_of, on_done}
-use Rattle.answer.specs.Laws.{clear, within, not_done}
-use Rattle.octets.specs.Octets.{written, written_at, onward}
-use Rattle.octets.specs.Laws.{copy_more, copy_fits, written_more}
-use Rattle.mppe.specs.declared.Link.{Link}
-use Rattle.mppe.specs.declared.Outcome.{Outcome}
-use Rattle.mppe.specs.Link.{front, well_formed, refusal, open_result}
-use Rattle.tape.specs.declared.Next.{Next}
-use Rattle.tape.specs.declared.Replayed.{Replayed}
-use Rattle.tape.specs.declared.Written.{Written}
-use Rattle.tape.specs.Tape.{first_octet, shortest_packet, groups, length_in, Read, reading, next_of, on_packet, begin_code, begin_out, place_rows, record_size, record_of, length_at, packet_at, write_code, write_answer, write_out, record_rows, record_read, read_at}
-use Rattle.tape.specs.Replay.{step_of, replayed, held, replay_step}
-use Rattle.tape.specs.Laws.{low_some, groups_one, groups_more, length_one, length_more, pow_some}
+use Rattle.std.proofs.Math.ListN.{length, drop, get_or, length-append, length-drop}
+use Rattle.std.proofs.Math.Seq.{length-take-le, take-append-add, drop-length, take-append_seam, drop-append_seam, get_or-drop}
+use borrow.Author.Tests.{lt-ltb, le-ltb, ltb-true, ltb-false, eq-eqb, ne_eqb, eqb-true, not-false}
+use Rattle.answer.specs.Answer.{done, shape, size, pick, first_of, on_done}
+use Rattle.answer.specs.Laws.{clear, within, outside_none}
+use Rattle.octets.specs.Octets.{Octets}
+use Rattle.tape.specs.Tape.{first_octet, shortest_packet, longest_packet, most_groups, groups, with_low, length_in, Read, reading, Contents, ended, behind, holding, on_packet, record_size, record_of, records_of, tape_of, Fits, Writable, write_out, place_rows, length_at, packet_at, record_rows, record_read, read_at, read_on, read_from, contents, ReadsBack, WritesNext}
 
--- a number that is not 0
-pub positive : (n : ℕ) → (n ≡ 0 → ⊥) → 0 < n
-positive zero h = absurd (h refl)
-positive (suc n) h = omega arith
+-- groups in front of others
+pub low_some : (low high : ℕ) → 0 < high → with_low low high ≡ low + 128 * high
+low_some low zero h = absurd (omega arith)
+low_some low (suc high) h = refl
 
--- lengths of few groups fit a machine's number
-pub power_up : (k j : ℕ) → k ≤ j → 128 ^ k ≤ 128 ^ j
-power_up zero j h = pow_some j
-power_up (suc k) zero h = absurd (omega arith)
-power_up (suc k) (suc j) h = omega (arith, power_up k j (omega arith))
+pub groups_one : (k n : ℕ) → n < 128 → groups (suc k) n ≡ n ∷ []
+unfolding groups
+groups_one k n h = rw (lt-ltb n 128 h)
 
--- what the groups from one on say: no octet is there, or the last group, or one with others behind it
-module _ (k : ℕ) (l : List ℕ) (i : ℕ) where
-  abbrev pub Said : ℕ → Type 0
-  Said n = (n ≡ length_in (k - i) (drop i l)) × (n < 128 ^ (k - i))
+pub groups_more : (k low high : ℕ) → low < 128 → 0 < high → groups (suc k) (low + 128 * high) ≡ (128 + low) ∷ groups k high
+unfolding groups
+groups_more k low high l h =
+    let a : (low + 128 * high) % 128 ≡ low = omega arith in
+    let b : (low + 128 * high) / 128 ≡ high = omega arith in
+    rw (le-ltb (low + 128 * high) 128 (omega arith), a, b)
 
-  pub no_octet : length l ≤ i → Said 0
-  unfolding length_in
-  no_octet h = rw (drop_of_length-le l {i = i} h) (by (k - i))
-    where
-      by : (j : ℕ) → (0 ≡ length_in j []) × (0 < 128 ^ j)
-      by zero = (refl, pow_some 0)
-      by (suc j) = (refl, pow_some (suc j))
-
-  module _ {g : ℕ} (some : i < k) (there : i < length l) (is : g ≡ get_or l i 0) where
-    left : k - i ≡ suc (k - (i + 1))
-    left = omega arith
-
-    here : drop i l ≡ g ∷ drop (i + 1) l
-    here = drop-cons l i 0 there ∙ rw (is, add-one)
-
-    pub last_group : g < 128 → Said g
-    last_group h = rw (left, here) (sym (length_one (k - (i + 1)) g (drop (i + 1) l) h), omega (arith, pow_some (k - (i + 1))))
-
-    module _ {high : ℕ} (top : 128 ≤ g) (said : high ≡ length_in (k - (i + 1)) (drop (i + 1) l)) where
-      pub none_behind : high ≡ 0 → Said 0
-      none_behind none = rw (left, here, length_more (k - (i + 1)) g (drop (i + 1) l) top, ← said, none) (refl, pow_some (suc (k - (i + 1))))
-
-      pub some_behind : g < 256 → high < 128 ^ (k - (i + 1)) → (high ≡ 0 → ⊥) → Said (g - 128 + 128 * high)
-      some_behind octet below more =
-          rw (left, here, length_more (k - (i + 1)) g (drop (i + 1) l) top, ← said) (sym (low_some (g - 128) high (positive high more)), omega arith)
-
--- a tape begun, or no octet for it
-pub begun_none : (out : List ℕ) → length out < 1 → (room ≡ begin_code out) × (out ≡ begin_out out)
-unfolding begin_code begin_out
-begun_none out h = rw (lt-ltb (length out) 1 h) (refl, refl)
-
-pub begun : (out : List ℕ) → 1 ≤ length out → (done ≡ begin_code out) × (set out 0 first_octet ≡ begin_out out)
-unfolding begin_code begin_out
-begun [] h = absurd (omega arith)
-begun (x ∷ out) h = rw (le-ltb (suc (length out)) 1 h) (refl, refl)
-
--- the first octet: missing, another, right
-pub no_first : (tape : List ℕ) → length tape ≡ 0 → not (eqb (get_or tape 0 0) first_octet) ≡ true
-no_first [] h = refl
-no_first (x ∷ tape) h = absurd (omega arith)
-
-pub first_bad : (x : ℕ) → (x ≡ first_octet → ⊥) → not (eqb x first_octet) ≡ true
-first_bad x h = rw (ne_eqb x first_octet h)
-
-pub first_right : (x : ℕ) → x ≡ first_octet → not (eqb x first_octet) ≡ false
-first_right x h = rw (eq-eqb x first_octet h)
-
--- a number of more than one group
-more_groups : (j left : ℕ) → 128 ≤ left → left < 128 ^ suc j → 0 < j
-more_groups zero left more below = absurd (omega arith)
-more_groups (suc j) left more below = omega arith
-
--- the groups of a length one by one, lowest first: those from a place on are the groups of what is left of it
-module _ (k n : ℕ) where
-  abbrev pub Left : (i left : ℕ) → Type 0
-  Left i left = (i < k) × (left < 128 ^ (k - i)) × (drop i (groups k n) ≡ groups (k - i) left)
-
-  pub left_all : 0 < k → n < 128 ^ k → Left 0 n
-  left_all some h =
-      let whole : k - 0 ≡ k = omega arith in
-      rw whole (some, h, refl)
-
-  -- the group at a place: one with others behind it, or the last
-  module _ {i left : ℕ} (at : Left i left) where
-    behind : k - i ≡ suc (k - (i + 1))
-    behind = omega (arith, at.0)
-
-    at_place : (g : ℕ) (rest : List ℕ) → groups (k - i) left ≡ g ∷ rest
-        → (i + length (g ∷ rest) ≡ length (groups k n)) × (get_or (groups k n) i 0 ≡ g) × (drop (i + 1) (groups k n) ≡ rest)
-    at_place g rest e =
-        let l : List ℕ = groups k n in
-        let here : drop i l ≡ g ∷ rest = at.2 ∙ e in
-        let place : i + 0 ≡ i = omega arith in
-        let size : length l - i ≡ suc (length rest) = sym (length-drop i l) ∙ ap (λ (m : List ℕ). length m) here in (
-          omega arith,
-          ap (λ (j : ℕ). get_or l j 0) (sym place) ∙ sym (get_or-drop i l 0 0) ∙ ap (λ (m : List ℕ). get_or m 0 0) here,
-          sym (drop-drop 1 i l) ∙ ap (λ (m : List ℕ). drop 1 m) here,
-        )
-
-    more_left : 128 ≤ left → groups (k - i) left ≡ (128 + left % 128) ∷ groups (k - (i + 1)) (left / 128)
-    more_left more =
-        let parts : left ≡ left % 128 + 128 * (left / 128) = omega arith in
-        ap (λ (j : ℕ). groups j left) behind ∙ ap (λ (m : ℕ). groups (suc (k - (i + 1))) m) parts
-        ∙ groups_more (k - (i + 1)) (left % 128) (left / 128) (omega arith) (omega arith)
-
-    pub next_group : 128 ≤ left → (i < length (groups k n)) × (get_or (groups k n) i 0 ≡ 128 + left % 128) × Left (i + 1) (left / 128)
-    next_group more =
-        let (size, group, rest) = at_place (128 + left % 128) (groups (k - (i + 1)) (left / 128)) (more_left more) in
-        let below : left < 128 ^ suc (k - (i + 1)) = subst (λ (j : ℕ). left < 128 ^ j) behind at.1 in
-        (omega arith, group, (omega (arith, more_groups (k - (i + 1)) left more below), omega arith, rest))
-
-    pub top_group : left < 128 → (length (groups k n) ≡ i + 1) × (get_or (groups k n) i 0 ≡ left)
-    top_group last =
-        let (size, group, _) = at_place left [] (ap (λ (j : ℕ). groups j left) behind ∙ groups_one (k - (i + 1)) left last) in
-        (omega arith, group)
-
--- a group put behind others in the front of a buffer that has room for all
-pub group_put : {b : List ℕ} (l out : List ℕ) (i g : ℕ) → b ≡ written (take i l) out → get_or l i 0 ≡ g → i < length l → length l ≤ length out
-    → set b i g ≡ written (take (i + 1) l) out
-group_put {b} l out i g e is some fits = ap (λ (x : ℕ). set b i x) (sym is) ∙ copy_more l out i e some (omega arith)
-
-pub top_put : {b : List ℕ} (l out : List ℕ) (i g : ℕ) → b ≡ written (take i l) out → get_or l i 0 ≡ g → length l ≡ i + 1 → length l ≤ length out
-    → set b i g ≡ written l out
-top_put l out i g e is size fits = group_put l out i g e is (omega arith) fits ∙ rw (← size, take-length)
-
--- the loop over the groups of a length, from the highest one that may be down to the lowest
-pub before_groups : (k : ℕ) (l : List ℕ) → Said k l k 0
+-- a group that is the last, and one that is not
+pub length_one : (k g : ℕ) (rest : List ℕ) → g < 128 → length_in (suc k) (g ∷ rest) ≡ g
 unfolding length_in
-before_groups k l =
-    let none : k - k ≡ 0 = omega arith in
-    rw none (refl, pow_some 0)
+length_one k g rest h = rw (lt-ltb g 128 h)
 
-pub group_before : {n : ℕ} (k : ℕ) (l : List ℕ) (i : ℕ) → 0 < i → i ≤ k → Said k l i n
-    → (i - 1 < k) × (n ≡ length_in (k - (i - 1 + 1)) (drop (i - 1 + 1) l)) × (n < 128 ^ (k - (i - 1 + 1)))
-group_before k l i some most said =
-    let same : i - 1 + 1 ≡ i = omega arith in
-    (omega arith, rw same said.0, rw same said.1)
+pub length_more : (k g : ℕ) (rest : List ℕ) → 128 ≤ g → length_in (suc k) (g ∷ rest) ≡ with_low (g - 128) (length_in k rest)
+unfolding length_in
+length_more k g rest h = rw (le-ltb g 128 h)
 
-pub all_groups : {n : ℕ} (k : ℕ) (l : List ℕ) (i : ℕ) → i ≤ 0 → Said k l i n → n ≡ length_in k l
-all_groups k l zero h said =
-    let whole : k - 0 ≡ k = omega arith in
-    (rw whole at said).0
-all_groups k l (suc i) h said = absurd (omega arith)
+-- a number is one group, or a low one with others behind it
+abbrev pub Split : ℕ → Type 0
+Split n = (n < 128) ⊎ ((low : ℕ) × (high : ℕ) × (low < 128) × (0 < high) × (n ≡ low + 128 * high))
 
--- where a read's packet stands: none, or one that ends at the offset answered
-abbrev pub nothing : ℕ → ℕ → Next
-nothing code offset = record { answer = code; start = offset; offset = offset }
+pub split : (n : ℕ) → Split n
+split n = by (ltb n 128) refl
+  where
+    by : (t : Bool) → ltb n 128 ≡ t → Split n
+    by true e = inl (ltb-true n 128 e)
+    by false e = let h = ltb-false n 128 e in inr (n % 128, n / 128, omega arith, omega arith, omega arith)
 
-no_packet : {next : Next} {r : Read} (code offset : ℕ) → r ≡ reading code [] offset → next ≡ nothing code offset → next ≡ next_of r
-unfolding next_of
-no_packet code offset e is =
-    let same : offset - 0 ≡ offset = omega arith in
-    is ∙ rw (e, same)
+-- what is written is read, whatever stands behind it
+pub length_back : (k n : ℕ) (rest : List ℕ) → n < 128 ^ k → 0 < n → length_in k (groups k n ++ rest) ≡ n
+length_back zero n rest h some = absurd (omega arith)
+length_back (suc k) n rest h some = by (split n) (λ high. length_back k high rest)
+  where
+    by : Split n → ((high : ℕ) → high < 128 ^ k → 0 < high → length_in k (groups k high ++ rest) ≡ high)
+        → length_in (suc k) (groups (suc k) n ++ rest) ≡ n
+    by (inl small) ih = rw (groups_one k n small) (length_one k n rest small)
+    by (inr (low, high, l, a, e)) ih =
+        let gap : 128 + low - 128 ≡ low = omega arith in
+        rw (e, groups_more k low high l a, length_more k (128 + low) (groups k high ++ rest) (omega arith), ih high (omega arith) a, gap) (low_some low high a)
 
-some_packet : {r : Read} (p : List ℕ) (start offset : ℕ) → r ≡ reading done p offset → start + length p ≡ offset
-    → ◌≡◌ {A = Next} (record { answer = done; start = start; offset = offset }) (next_of r)
-unfolding next_of
-some_packet p start offset e sum =
-    let begin : offset - length p ≡ start = omega arith in
-    rw (e, begin)
+-- a length that is read was written, and in no other form
+abbrev Stands : ℕ → List ℕ → ℕ → Type 0
+Stands k l n = (n < 128 ^ k) × ((rest : List ℕ) × (l ≡ groups k n ++ rest))
 
--- a length that is not beyond a packet's is one of a packet's
-pub carried_length : {beyond : Bool} (most n : ℕ) → beyond ≡ outside shortest_packet most n → beyond ≡ false → (shortest_packet ≤ n) × (n ≤ most)
-carried_length most n long carried = within shortest_packet most n (sym long ∙ carried)
+pub pow_some : (k : ℕ) → 0 < 128 ^ k
+pow_some zero = omega arith
+pow_some (suc k) = omega (arith, pow_some k)
 
--- the ways out of the reading of a record: another length, a cut record, a packet
-module _ (k most : ℕ) (tape : List ℕ) (o : ℕ) {n : ℕ} {beyond : Bool} (said : n ≡ length_in k (take (length tape - o) (drop o tape)))
-    (long : beyond ≡ outside shortest_packet most n) where
-  length_is : length_at k tape o ≡ n
-  length_is = sym (said ∙ ap (λ (l : List ℕ). length_in k l) (take_all (length tape - o) (drop o tape) (omega (arith, length-drop o tape))))
+pub length_only : (k : ℕ) (l : List ℕ) → Octets l → 0 < length_in k l → Stands k l (length_in k l)
+length_only zero l octets some = unfold length_in in absurd (omega arith)
+length_only (suc k) [] octets some = unfold length_in in absurd (omega arith)
+length_only (suc k) (g ∷ l) octets some = by (ltb g 128) refl (length_only k l λ i. octets (suc i))
+  where
+    more : (h : ℕ) → 128 ≤ g → 0 < with_low (g - 128) h → (0 < h → Stands k l h) → Stands (suc k) (g ∷ l) (with_low (g - 128) h)
+    more zero big some ih = absurd (omega arith)
+    more (suc h) big some ih =
+        let low : 128 + (g - 128) ≡ g = omega arith in
+        let small : g - 128 < 128 = omega (arith, octets 0) in
+        let (below, (rest, e)) = ih (omega arith) in
+        (omega arith, (rest, rw (groups_more k (g - 128) (suc h) small (omega arith), low, ← e)))
 
-  pub record_other : {next : Next} → beyond ≡ true → next ≡ nothing shape o → next ≡ next_of (record_read k most tape o)
-  unfolding record_read
-  record_other other is = no_packet shape o (rw (length_is, ← long, other)) is
+    by : (t : Bool) → ltb g 128 ≡ t → (0 < length_in k l → Stands k l (length_in k l)) → Stands (suc k) (g ∷ l) (length_in (suc k) (g ∷ l))
+    by true e ih =
+        let h = ltb-true g 128 e in
+        rw (length_one k g l h) (omega (arith, pow_some k), (l, rw (groups_one k g h)))
+    by false e ih =
+        let h = ltb-false g 128 e in
+        rw (length_more k g l h) (more (length_in k l) h (rw (length_more k g l h) at some) ih)
 
-  module _ {g : ℕ} (carried : beyond ≡ false) (size : g ≡ length (groups k n)) where
-    pub record_cut : {next : Next} → length tape - o < g + n → next ≡ nothing shape o → next ≡ next_of (record_read k most tape o)
-    unfolding record_read
-    record_cut h is = no_packet shape o (rw (length_is, ← long, carried, ← size, lt-ltb (length tape - o) (g + n) h)) is
+-- a packet is not empty
+cons_some : {x : ℕ} {xs : List ℕ} → x ∷ xs ≡ [] → ⊥
+cons_some e = omega (arith, ap (λ (l : List ℕ). length l) e)
 
-    pub record_whole : g + n ≤ length tape - o
-        → ◌≡◌ {A = Next} (record { answer = done; start = o + g; offset = o + g + n }) (next_of (record_read k most tape o))
-    unfolding record_read
-    record_whole h =
-        let after : o + (g + n) ≡ o + g + n = omega arith in
-        let all : length (take n (drop (o + g) tape)) ≡ n = length-take-le n (drop (o + g) tape) (omega (arith, length-drop (o + g) tape, (carried_length most n long carried).0)) in
-        some_packet (take n (drop (o + g) tape)) (o + g) (o + g + n)
-        (rw (length_is, ← long, carried, ← size, le-ltb (length tape - o) (g + n) h, after)) (omega arith)
+pub on_packet_lem : {A : Type 0} (p : List ℕ) (some none : A) → shortest_packet ≤ length p → on_packet p some none ≡ some
+on_packet_lem [] some none h = absurd (omega arith)
+on_packet_lem (x ∷ xs) some none h = refl
 
--- the ways out of a read: a wrong place, the end, a record
-module _ (k most : ℕ) (tape : List ℕ) (o : ℕ) {code : ℕ} (place : code ≡ first_of (place_rows tape o)) where
-  pub misplaced : {next : Next} → (code ≡ done → ⊥) → next ≡ nothing code 0 → next ≡ next_of (read_at k most tape o)
+-- what stands behind a record
+pub past : (k : ℕ) (tape : List ℕ) (o : ℕ) (p rest : List ℕ) → drop o tape ≡ record_of k p ++ rest
+    → (drop (o + record_size k (length p)) tape ≡ rest) × (length tape - o ≡ record_size k (length p) + length rest)
+unfolding record_of
+past k tape o p rest e =
+    let size : record_size k (length p) ≡ length (record_of k p) = simp length-append in (
+      rw (size, ← drop-drop (length (record_of k p)) o tape, e) (drop-append_seam (record_of k p) rest),
+      sym (length-drop o tape) ∙ ap (λ (l : List ℕ). length l) e ∙ simp length-append,
+    )
+
+module _ (k most : ℕ) (fits : Fits k most) where
+  -- a packet that has a record
+  abbrev Fit : List ℕ → Type 0
+  Fit p = (shortest_packet ≤ length p) × (length p ≤ most)
+
+  -- a record that stands at an offset is read
+  record_there : (tape : List ℕ) (o : ℕ) (p rest : List ℕ) → Fit p → drop o tape ≡ record_of k p ++ rest
+      → record_read k most tape o ≡ reading done p (o + record_size k (length p))
+  unfolding record_read record_of
+  record_there tape o p rest (low, high) e =
+      let n : length_in k (drop o tape) ≡ length p =
+      rw (e, append_assoc) (length_back k (length p) (p ++ rest) (omega arith) (omega arith)) in
+      let long : length tape - o ≡ record_size k (length p) + length rest =
+      sym (length-drop o tape) ∙ ap (λ (l : List ℕ). length l) e ∙ simp length-append in
+      let behind : drop (o + length (groups k (length p))) tape ≡ p ++ rest =
+      sym (drop-drop (length (groups k (length p))) o tape) ∙ rw (e, append_assoc) (drop-append_seam (groups k (length p)) (p ++ rest)) in
+      rw (n, outside_none shortest_packet most (length p) low high, le-ltb (length tape - o) (record_size k (length p)) (omega arith), behind, take-append_seam p rest)
+
+  -- and a record that is read stands there
+  record_only : (tape : List ℕ) (o : ℕ) → Octets tape → first_of (record_rows k most tape o) ≡ done
+      → (p : List ℕ) × (rest : List ℕ) × Fit p × (drop o tape ≡ record_of k p ++ rest)
+  unfolding record_of
+  record_only tape o octets e =
+      let (inside, (whole, _)) = clear shape (record_rows k most tape o) refl e in
+      let n : ℕ = length_in k (drop o tape) in
+      let (low, high) = within shortest_packet most n inside in
+      let enough = ltb-false (length tape - o) (record_size k n) whole in
+      let (_, (after, stands)) = length_only k (drop o tape) (λ i. rw get_or-drop (octets (o + i))) (omega arith) in
+      let long : length tape - o ≡ length (groups k n) + length after =
+      sym (length-drop o tape) ∙ ap (λ (l : List ℕ). length l) stands ∙ simp length-append in
+      let size : length (take n after) ≡ n = length-take-le n after (omega arith) in
+      (take n after, drop n after, (omega arith, omega arith), rw (size, append_assoc, take-append-drop) stands)
+
+  -- the first octet is right, and the offset behind it and not past the end
+  abbrev Placed : List ℕ → ℕ → Type 0
+  Placed tape o = (get_or tape 0 0 ≡ first_octet) × (1 ≤ o) × (o ≤ length tape)
+
+  placed_rows : (tape : List ℕ) (o : ℕ) → Placed tape o → first_of (place_rows tape o) ≡ done
+  placed_rows tape o (first, low, high) = rw (eq-eqb (get_or tape 0 0) first_octet first, outside_none 1 (length tape) o low high)
+
+  -- a read at the end, and one at a record
+  pub read_end : (tape : List ℕ) → get_or tape 0 0 ≡ first_octet → 1 ≤ length tape → read_at k most tape (length tape) ≡ reading done [] (length tape)
   unfolding read_at
-  misplaced bad is = no_packet code 0 (rw (← place) (not_done code _ _ bad)) is
+  read_end tape first some = rw (placed_rows tape (length tape) (first, some, omega arith), eq-eqb (length tape) (length tape) refl)
 
-  pub inside : code ≡ done → o ≤ length tape
-  inside good = (within 1 (length tape) o (clear size (place_rows tape o) refl (sym place ∙ good)).0).1
-
-  pub at_end_lem : {next : Next} → code ≡ done → o ≡ length tape → next ≡ nothing done o → next ≡ next_of (read_at k most tape o)
+  pub read_record : (tape : List ℕ) (o : ℕ) (p rest : List ℕ) → get_or tape 0 0 ≡ first_octet → 1 ≤ o → Fit p → drop o tape ≡ record_of k p ++ rest
+      → read_at k most tape o ≡ reading done p (o + record_size k (length p))
   unfolding read_at
-  at_end_lem good e is = no_packet done o (rw (← place, good, eq-eqb o (length tape) e)) is
+  read_record tape o p rest first low fit e =
+      let long : length tape - o ≡ record_size k (length p) + length rest =
+      sym (length-drop o tape) ∙ ap (λ (l : List ℕ). length l) e ∙ (unfold record_of in simp length-append) in
+      rw (placed_rows tape o (first, low, omega arith), ne_eqb o (length tape) (λ (z : o ≡ length tape). omega arith))
+      (record_there tape o p rest fit e)
 
-  pub at_record : {next : Next} → code ≡ done → (o ≡ length tape → ⊥) → next ≡ next_of (record_read k most tape o) → next ≡ next_of (read_at k most tape o)
-  unfolding read_at
-  at_record good e is = is ∙ ap next_of (sym (rw (← place, good, ne_eqb o (length tape) e)))
+  -- what a read finds: no packet, and if that is no refusal the end; or a record
+  abbrev None : List ℕ → ℕ → Type 0
+  None tape o =
+      (code : ℕ) × (after : ℕ) × (read_at k most tape o ≡ reading code [] after)
+      × (code ≡ done → (get_or tape 0 0 ≡ first_octet) × (1 ≤ o) × (o ≡ length tape) × (after ≡ o))
 
--- a read's packet is the part of the tape that ends at the offset answered
-module _ (k most : ℕ) (tape : List ℕ) (o : ℕ) where
-  abbrev IsPart : Read → Type 0
-  IsPart r = (r.offset ≤ length tape) × (length r.packet ≤ r.offset) × (take (length r.packet) (drop (r.offset - length r.packet) tape) ≡ r.packet)
+  abbrev Some : List ℕ → ℕ → Type 0
+  Some tape o =
+      (p : List ℕ) × (rest : List ℕ) × (get_or tape 0 0 ≡ first_octet) × (1 ≤ o) × Fit p × (drop o tape ≡ record_of k p ++ rest)
 
-  no_part : (code offset : ℕ) → offset ≤ length tape → IsPart (reading code [] offset)
-  no_part code offset h = (h, omega arith, refl)
-
-  record_part : o ≤ length tape → IsPart (record_read k most tape o)
-  unfolding record_read
-  record_part h = by (first_of (record_rows k most tape o)) refl
+  found : (tape : List ℕ) (o : ℕ) → Octets tape → None tape o ⊎ Some tape o
+  unfolding read_at record_read
+  found tape o octets = place (first_of (place_rows tape o)) refl
     where
-      by : (code : ℕ) → first_of (record_rows k most tape o) ≡ code
-          → IsPart (on_done code (reading done (packet_at k tape o) (o + record_size k (length_at k tape o))) (reading code [] o))
-      by zero e =
+      here : Placed tape o → (code : ℕ) → first_of (record_rows k most tape o) ≡ code → (eqb o (length tape) ≡ false) → None tape o ⊎ Some tape o
+      here (first, low, high) zero e last =
+          let (p, rest, fit, stands) = record_only tape o octets e in inr (p, rest, first, low, fit, stands)
+      here placed (suc c) e last =
+          inl (suc c, o, rw (placed_rows tape o placed, last, e), λ z. absurd (omega arith))
+
+      end : Placed tape o → (t : Bool) → eqb o (length tape) ≡ t → None tape o ⊎ Some tape o
+      end (first, low, high) true e =
+          inl (done, o, rw (placed_rows tape o (first, low, high), e), λ z. (first, low, eqb-true o (length tape) e, refl))
+      end placed false e = here placed (first_of (record_rows k most tape o)) refl e
+
+      place : (code : ℕ) → first_of (place_rows tape o) ≡ code → None tape o ⊎ Some tape o
+      place zero e =
+          let first = not-false (eqb (get_or tape 0 0) first_octet) (clear shape (place_rows tape o) refl e).0 in
+          let (low, high) = within 1 (length tape) o (clear size (place_rows tape o) refl e).0 in
+          end (eqb-true (get_or tape 0 0) first_octet first, low, high) (eqb o (length tape)) refl
+      place (suc c) e = inl (suc c, 0, rw e, λ z. absurd (omega arith))
+
+  -- reading on from an offset gives the packet there, and behind it what reading on gives; or it ends there
+  one_read : (n : ℕ) (tape : List ℕ) (o : ℕ) → ((read_at k most tape o).packet ≡ [] → ⊥)
+      → read_on k most (suc n) tape o ≡ behind (read_at k most tape o).packet (read_on k most n tape (read_at k most tape o).offset)
+  unfolding read_on
+  one_read n tape o some = by (read_at k most tape o).packet some
+    where
+      rest : Contents
+      rest = read_on k most n tape (read_at k most tape o).offset
+
+      by : (p : List ℕ) → (p ≡ [] → ⊥) → on_packet p (behind p rest) (ended (read_at k most tape o)) ≡ behind p rest
+      by [] some = absurd (some refl)
+      by (x ∷ xs) some = refl
+
+  pub reads_none : (n : ℕ) (tape : List ℕ) (o : ℕ) → (read_at k most tape o).packet ≡ [] → read_on k most n tape o ≡ ended (read_at k most tape o)
+  unfolding read_on
+  reads_none zero tape o e = refl
+  reads_none (suc n) tape o e = rw e
+
+  on_none : (n : ℕ) (tape : List ℕ) (o code after : ℕ) → read_at k most tape o ≡ reading code [] after
+      → read_on k most n tape o ≡ ended (reading code [] after)
+  on_none n tape o code after e = reads_none n tape o (ap (λ (r : Read). r.packet) e) ∙ ap (λ (r : Read). ended r) e
+
+  on_some : (n : ℕ) (tape : List ℕ) (o : ℕ) (p : List ℕ) → shortest_packet ≤ length p
+      → read_at k most tape o ≡ reading done p (o + record_size k (length p))
+      → read_on k most (suc n) tape o ≡ behind p (read_on k most n tape (o + record_size k (length p)))
+  on_some n tape o p h e =
+      let some : (read_at k most tape o).packet ≡ [] → ⊥ = λ z. omega (arith, h, ap (λ (l : List ℕ). length l) (sym (ap (λ (r : Read). r.packet) e) ∙ z)) in
+      one_read n tape o some ∙ ap (λ (r : Read). behind r.packet (read_on k most n tape r.offset)) e
+
+  -- records that stand behind an offset are read, if there are as many reads
+  pub reads_records : (n : ℕ) (tape : List ℕ) (o : ℕ) (ps : List (List ℕ)) → get_or tape 0 0 ≡ first_octet → 1 ≤ o → o ≤ length tape → length ps ≤ n
+      → Writable most ps → drop o tape ≡ records_of k ps → read_on k most n tape o ≡ holding tape ps
+  unfolding records_of Writable
+  reads_records n tape o [] first low high enough all e =
+      let end : o ≡ length tape = omega (arith, length-drop o tape, ap (λ (l : List ℕ). length l) e) in
+      rw end (on_none n tape (length tape) done (length tape) (read_end tape first (omega arith)))
+  reads_records zero tape o (p ∷ ps) first low high enough all e = absurd (omega arith)
+  reads_records (suc n) tape o (p ∷ ps) first low high enough (fit, all) e =
+      let w = within shortest_packet most (length p) fit in
+      let (on, long) = past k tape o p (records_of k ps) e in
+      rw (
+        on_some n tape o p w.0 (read_record tape o p (records_of k ps) first low w e),
+        reads_records n tape (o + record_size k (length p)) ps first (omega arith) (omega arith) (omega arith) all on,
+      )
+
+  -- and what is read without a refusal stands there
+  abbrev Stood : List ℕ → ℕ → Contents → Type 0
+  Stood tape o c = Writable most c.packets × (drop o tape ≡ records_of k c.packets) × (get_or tape 0 0 ≡ first_octet) × (c.offset ≡ length tape)
+
+  none_only : (n : ℕ) (tape : List ℕ) (o : ℕ) → None tape o → (read_on k most n tape o).answer ≡ done → Stood tape o (read_on k most n tape o)
+  unfolding Writable records_of
+  none_only n tape o (code, after, r, end) e =
+      let stop = on_none n tape o code after r in
+      let (first, low, at, same) = end (rw stop at e) in
+      rw stop (tt, rw (at, drop-length), first, same ∙ at)
+
+  pub records_only : (n : ℕ) (tape : List ℕ) (o : ℕ) → Octets tape → length tape ≤ o + n → (read_on k most n tape o).answer ≡ done
+      → Stood tape o (read_on k most n tape o)
+  unfolding Writable records_of
+  records_only zero tape o octets enough e = by (found tape o octets)
+    where
+      by : None tape o ⊎ Some tape o → Stood tape o (read_on k most 0 tape o)
+      by (inl none) = none_only 0 tape o none e
+      by (inr (p, rest, first, low, fit, stands)) = absurd (omega (arith, (past k tape o p rest stands).1))
+  records_only (suc n) tape o octets enough e = by (found tape o octets) (λ o'. records_only n tape o' octets)
+    where
+      by : None tape o ⊎ Some tape o
+          → ((o' : ℕ) → length tape ≤ o' + n → (read_on k most n tape o').answer ≡ done → Stood tape o' (read_on k most n tape o'))
+          → Stood tape o (read_on k most (suc n) tape o)
+      by (inl none) ih = none_only (suc n) tape o none e
+      by (inr (p, rest, first, low, fit, stands)) ih =
+          let step = on_some n tape o p fit.0 (read_record tape o p rest first low fit stands) in
+          let (on, long) = past k tape o p rest stands in
+          let (all, ahead, _, last) = ih (o + record_size k (length p)) (omega arith) (rw step at e) in
+          rw step ((outside_none shortest_packet most (length p) fit.0 fit.1, all), rw (← ahead, on) stands, first, last)
+
+  -- a read that gives a packet answers 0, moves on over its record, and not past the end
+  abbrev pub Moves : List ℕ → ℕ → Read → Type 0
+  Moves tape o r =
+      (r.packet ≡ [] → ⊥)
+      → (r.answer ≡ done) × (r.offset ≡ o + record_size k (length r.packet)) × (r.offset ≤ length tape) × Fit r.packet
+
+  pub read_moves : (tape : List ℕ) (o : ℕ) → Moves tape o (read_at k most tape o)
+  unfolding read_at record_read
+  read_moves tape o some = place (first_of (place_rows tape o)) refl some
+    where
+      here : (code : ℕ) → first_of (record_rows k most tape o) ≡ code → o ≤ length tape
+          → Moves tape o (on_done code (reading done (packet_at k tape o) (o + record_size k (length_at k tape o))) (reading code [] o))
+      here zero e high some =
+          let (inside, (whole, _)) = clear shape (record_rows k most tape o) refl e in
           let n : ℕ = length_at k tape o in
-          let g : ℕ = length (groups k n) in
-          let (carried, (whole, _)) = clear shape (record_rows k most tape o) refl e in
-          let fits : g + n ≤ length tape - o = ltb-false (length tape - o) (g + n) whole in
-          let low = within shortest_packet most n carried in
-          let long : length (packet_at k tape o) ≡ n = length-take-le n (drop (o + g) tape) (omega (arith, length-drop (o + g) tape)) in
-          let begin : o + (g + n) - n ≡ o + g = omega arith in
-          (omega arith, omega arith, rw (long, begin))
-      by (suc c) e = no_part (suc c) o h
+          let fit = within shortest_packet most n inside in
+          let enough = ltb-false (length tape - o) (record_size k n) whole in
+          let size : length (packet_at k tape o) ≡ n =
+          length-take-le n (drop (o + length (groups k n)) tape) (omega (arith, length-drop (o + length (groups k n)) tape)) in
+          rw size (refl, refl, omega arith, fit)
+      here (suc c) e high some = absurd (some refl)
 
-  read_part : IsPart (read_at k most tape o)
-  unfolding read_at
-  read_part = by (first_of (place_rows tape o)) refl
+      end : (t : Bool) → o ≤ length tape → Moves tape o (pick t (reading done [] o) (record_read k most tape o))
+      end true high some = absurd (some refl)
+      end false high some = here (first_of (record_rows k most tape o)) refl high some
+
+      place : (code : ℕ) → first_of (place_rows tape o) ≡ code
+          → Moves tape o (on_done code (pick (eqb o (length tape)) (reading done [] o) (record_read k most tape o)) (reading code [] 0))
+      place zero e some = end (eqb o (length tape)) (within 1 (length tape) o (clear size (place_rows tape o) refl e).0).1 some
+      place (suc c) e some = absurd (some refl)
+
+  -- more reads than there are octets left change nothing ..
+  reads_enough : (n : ℕ) (tape : List ℕ) (o : ℕ) → length tape ≤ o + n → read_on k most (suc n) tape o ≡ read_on k most n tape o
+  unfolding read_on
+  reads_enough zero tape o enough = by (read_at k most tape o).packet refl
     where
-      end : o ≤ length tape → (t : Bool) → IsPart (pick t (reading done [] o) (record_read k most tape o))
-      end h true = no_part done o h
-      end h false = record_part h
+      by : (p : List ℕ) → (read_at k most tape o).packet ≡ p → on_packet p (behind p (ended (read_at k most tape (read_at k most tape o).offset))) (ended (read_at k most tape o)) ≡ ended (read_at k most tape o)
+      by [] e = refl
+      by (x ∷ xs) e = let (_, on, inside, fit) = read_moves tape o (λ z. cons_some (sym e ∙ z)) in absurd (omega (arith, fit.0))
+  reads_enough (suc n) tape o enough = by (read_at k most tape o).packet refl (reads_enough n tape (read_at k most tape o).offset)
+    where
+      by : (p : List ℕ) → (read_at k most tape o).packet ≡ p
+          → (length tape ≤ (read_at k most tape o).offset + n → read_on k most (suc n) tape (read_at k most tape o).offset ≡ read_on k most n tape (read_at k most tape o).offset)
+          → on_packet p (behind p (read_on k most (suc n) tape (read_at k most tape o).offset)) (ended (read_at k most tape o))
+          ≡ on_packet p (behind p (read_on k most n tape (read_at k most tape o).offset)) (ended (read_at k most tape o))
+      by [] e ih = refl
+      by (x ∷ xs) e ih =
+          let (_, on, inside, fit) = read_moves tape o (λ z. cons_some (sym e ∙ z)) in
+          rw (ih (omega (arith, fit.0)))
 
-      by : (code : ℕ) → first_of (place_rows tape o) ≡ code
-          → IsPart (on_done code (pick (eqb o (length tape)) (reading done [] o) (record_read k most tape o)) (reading code [] 0))
-      by zero e = end (inside k most tape o (sym e) refl) (eqb o (length tape))
-      by (suc c) e = no_part (suc c) 0 (omega arith)
+  -- .. so that reading on to the end does so too
+  pub reads_on : (tape : List ℕ) (o : ℕ) → ((read_at k most tape o).packet ≡ [] → ⊥)
+      → read_from k most tape o ≡ behind (read_at k most tape o).packet (read_from k most tape (read_at k most tape o).offset)
+  reads_on tape o some = by (length tape) refl
+    where
+      after : ℕ
+      after = (read_at k most tape o).offset
 
-  -- the same of where it stands
-  module _ {next : Next} (is : next ≡ next_of (read_at k most tape o)) where
-    pub part_fits : (next.start ≤ next.offset) × (next.offset ≤ length tape)
-    unfolding next_of
-    part_fits =
-        let (end, size, _) = read_part in
-        rw is (omega arith, omega arith)
+      by : (n : ℕ) → length tape ≡ n → read_on k most n tape o ≡ behind (read_at k most tape o).packet (read_on k most n tape after)
+      by zero h = let (_, on, inside, fit) = read_moves tape o some in absurd (omega (arith, fit.0))
+      by (suc n) h =
+          let (_, on, inside, fit) = read_moves tape o some in
+          rw (reads_enough n tape after (omega (arith, fit.0))) (one_read n tape o some)
 
-    pub part_read : take (next.offset - next.start) (drop next.start tape) ≡ (read_at k most tape o).packet
-    unfolding next_of
-    part_read =
-        let (end, size, part) = read_part in
-        let n : ℕ = length (read_at k most tape o).packet in
-        let after : ℕ = (read_at k most tape o).offset in
-        let all : after - (after - n) ≡ n = omega arith in
-        rw (is, all) part
+  -- there are fewer records than octets
+  pub records_count : (ps : List (List ℕ)) → Writable most ps → length ps ≤ length (records_of k ps)
+  unfolding Writable records_of record_of
+  records_count [] all = omega arith
+  records_count (p ∷ ps) (fit, all) =
+      let low = (within shortest_packet most (length p) fit).0 in
+      simp length-append (omega (arith, records_count ps all))
 
-    pub part_at : (place : ℕ × ℕ) → onward next.start place ≡ onward (next_of (read_at k most tape o)).start place
-    part_at place = rw is
+  -- "Each list's tape, and no other, reads back to it."
+  pub reads_back : ReadsBack k most
+  unfolding ReadsBack contents tape_of
+  reads_back tape ps octets = (only, back)
+    where
+      front : (tape : List ℕ) → get_or tape 0 0 ≡ first_octet → tape ≡ first_octet ∷ drop 1 tape
+      front [] first = absurd (omega arith)
+      front (x ∷ xs) first = rw first
 
-    -- there is none exactly where it has no octet
-    pub no_octets : next.start ≡ next.offset → (read_at k most tape o).packet ≡ []
-    unfolding next_of
-    no_octets same =
-        let (_, size, _) = read_part in
-        none (read_at k most tape o).packet (omega (arith, size, rw is at same))
-      where
-        none : (p : List ℕ) → length p ≤ 0 → p ≡ []
-        none [] h = refl
-        none (x ∷ p) h = absurd (omega arith)
+      only : read_on k most (length tape) tape 1 ≡ holding tape ps → Writable most ps × (tape ≡ tape_of k ps)
+      only e =
+          let (all, ahead, first, _) = records_only (length tape) tape 1 octets (omega arith) (ap (λ (c : Contents). c.answer) e) in
+          (rw e at all, rw (front tape first, ahead, e))
 
-    pub some_octets : {A : Type 0} (some other : A) → (next.start ≡ next.offset → ⊥) → on_packet (read_at k most tape o).packet some other ≡ some
-    unfolding next_of
-    some_octets some other differ = by (read_at k most tape o).packet refl
-      where
-        by : (p : List ℕ) → (read_at k most tape o).packet ≡ p → on_packet p some other ≡ some
-        by [] e =
-            let same : (read_at k most tape o).offset - 0 ≡ (read_at k most tape o).offset = omega arith in
-            absurd (differ (rw (is, e, same)))
-        by (x ∷ p) e = refl
+      back : Writable most ps × (tape ≡ tape_of k ps) → read_on k most (length tape) tape 1 ≡ holding tape ps
+      back (all, e) =
+          let size : length tape ≡ suc (length (records_of k ps)) = ap (λ (l : List ℕ). length l) e in
+          reads_records (length tape) tape 1 ps (ap (λ (l : List ℕ). get_or l 0 0) e) (omega arith) (omega arith)
+          (omega (arith, records_count ps all)) all (ap (λ (l : List ℕ). drop 1 l) e)
 
--- the ways out of a replay step
-module _ (k limit far : ℕ) (l : Link) (room tape : List ℕ) (o : ℕ) {well : Bool} (form : well ≡ well_formed l) where
-  abbrev Stepped : Replayed → List ℕ → Type 0
-  Stepped r after =
-      (r ≡ replayed (replay_step k limit far (held l room) tape o)) × (after ≡ (replay_step k limit far (held l room) tape o).result.buffer)
+-- at the limits in force
+pub reads_back_base : ReadsBack most_groups longest_packet
+reads_back_base = reads_back most_groups longest_packet (omega arith)
 
-  pub step_ill : {r : Replayed} → well ≡ false → r ≡ replayed (step_of (refusal not_record l []) 0) → Stepped r room
-  unfolding replay_step
-  step_ill ill is = rw (sym form ∙ ill) (is, refl)
+-- the records of two lists, one behind the other
+pub records_append : (k : ℕ) (a b : List (List ℕ)) → records_of k (a ++ b) ≡ records_of k a ++ records_of k b
+unfolding records_of
+records_append k [] b = refl
+records_append k (p ∷ a) b = rw (records_append k a b, append_assoc)
 
-  module _ {next : Next} (good : well ≡ true) (found : next ≡ next_of (read_at k (front + limit) tape o)) where
-    pub step_none : {r : Replayed} → next.start ≡ next.offset → r ≡ replayed (step_of (refusal next.answer l []) next.offset) → Stepped r room
-    unfolding replay_step next_of
-    step_none same is = rw (sym form ∙ good, no_octets k (front + limit) tape o found same) (is ∙ rw found, refl)
+pub writable_behind : (most : ℕ) (a b : List (List ℕ)) → Writable most (a ++ b) → Writable most b
+unfolding Writable
+writable_behind most [] b all = all
+writable_behind most (p ∷ a) b (fit, all) = writable_behind most a b all
 
-    pub step_some : {out : Outcome} {after : List ℕ} → (next.start ≡ next.offset → ⊥)
-        → out ≡ (open_result limit far l (take (next.offset - next.start) (drop next.start tape)) room).outcome
-        → after ≡ (open_result limit far l (take (next.offset - next.start) (drop next.start tape)) room).buffer
-        → Stepped (record { outcome = out; offset = next.offset }) after
-    unfolding replay_step
-    step_some differ is wrote =
-        let part = part_read k (front + limit) tape o found in
-        let offset : next.offset ≡ (read_at k (front + limit) tape o).offset = ap (λ (x : Next). x.offset) found ∙ (unfold next_of in refl) in
-        rw (sym form ∙ good, some_octets k (front + limit) tape o found _ _ differ) (rw (is, part, offset), rw (wrote, part))
+tape_more : (k : ℕ) (ps : List (List ℕ)) (p : List ℕ) → tape_of k ps ++ record_of k p ≡ tape_of k (ps ++ (p ∷ []))
+unfolding tape_of records_of
+tape_more k ps p = rw (records_append k ps (p ∷ []), append-nil)
 
--- the ways out of a write
-module _ (k most : ℕ) (p out : List ℕ) {beyond : Bool} (long : beyond ≡ outside shortest_packet most (length p)) where
-  abbrev Wrote : Written → List ℕ → Type 0
-  Wrote r after = (r ≡ write_answer k most p out) × (after ≡ write_out k most p out)
-
-  kept : {r : Written} (code : ℕ) → write_code k most p out ≡ suc code → r ≡ record { answer = suc code; length = 0 } → Wrote r out
-  unfolding write_answer write_out
-  kept code e is = rw e (is, refl)
-
-  pub write_other : {r : Written} → beyond ≡ true → r ≡ record { answer = shape; length = 0 } → Wrote r out
-  write_other other is = kept 0 (unfold write_code in rw (← long, other)) is
-
-  module _ {g : ℕ} (carried : beyond ≡ false) (size : g ≡ length (groups k (length p))) where
-    pub write_cut : {r : Written} → length out < g + length p → r ≡ record { answer = room; length = 0 } → Wrote r out
-    write_cut h is = kept 1 (unfold write_code in rw (← long, carried, ← size, lt-ltb (length out) (g + length p) h)) is
-
-    pub write_whole : {b b' : List ℕ} → g + length p ≤ length out → b ≡ written (groups k (length p)) out
-        → b' ≡ written_at g (take (length b - g) p) b → Wrote (record { answer = done; length = g + length p }) b'
-    unfolding write_answer write_out record_of
-    write_whole {b} h put copied =
-        let code : write_code k most p out ≡ done = unfold write_code in rw (← long, carried, ← size, le-ltb (length out) (g + length p) h) in
-        let same : length b ≡ length out = ap (λ (x : List ℕ). length x) put ∙ length-append (groups k (length p)) _ ∙ omega (arith, length-drop (length (groups k (length p))) out) in
-        rw code (rw size, written_more (groups k (length p)) out p g put (copied ∙ copy_fits g p b (omega arith)) (sym size))
+-- a record written behind a tape makes the tape of one packet more
+pub writes_next : (k most : ℕ) → WritesNext k most
+unfolding WritesNext write_out
+writes_next k most ps p rest e =
+    let size : record_size k (length p) ≡ length (record_of k p) = unfold record_of in sym (length-append (groups k (length p)) p) in
+    rw (
+      e,
+      take-append-add (tape_of k ps) (record_of k p ++ drop (length (record_of k p)) rest) (record_size k (length p)),
+      size,
+      take-append_seam (record_of k p) (drop (length (record_of k p)) rest),
+    ) (tape_more k ps p)

@@ -1,6 +1,6 @@
 -- Larger limits (02, M-110), in its words. Before them a length had at most `k` groups and a packet at most `most` octets, the plain one
 -- `limit`; with them they have `k'`, `most'` and `limit'`.
-use Rattle.std.specs.Prelude.{◌≡◌, false, List, ℕ, ◌+◌, length}
+use Rattle.std.specs.Prelude.{◌≡◌, false, List, ℕ, ◌+◌, ◌^◌, ◌<◌, ◌≤◌, length}
 use Rattle.answer.specs.Answer.{done, outside}
 use Rattle.mppe.specs.Link.{front}
 use Rattle.tape.specs.Tape.{shortest_packet, tape_of, write_answer, write_out, read_at, Writable, contents}
@@ -12,6 +12,16 @@ groups_before = 2
 
 abbrev pub plain_before : ℕ
 plain_before = 1498
+
+-- what larger limits are: each length that was carried has at most `k` groups, and there are no fewer groups and no shorter packets than before
+abbrev pub Carried : (k most : ℕ) → Type 0
+Carried k most = most < 128 ^ k
+
+abbrev pub NoFewer : (k k' : ℕ) → Type 0
+NoFewer k k' = k ≤ k'
+
+abbrev pub NoShorter : (most most' : ℕ) → Type 0
+NoShorter most most' = most ≤ most'
 
 module _ (k most k' most' : ℕ) where
   -- "Every tape that read without a refusal reads as before": each read of it ..

@@ -2,9 +2,3 @@
 pub mod Tape
 pub mod Replay
 pub mod Larger
--- Laws; `reads-back`, `writes-next`, `replays` and the four `..-as-before` are the claims.
-pub mod Laws
-pub mod ReplayLaws
-pub mod LargerLaws
--- The request's examples, and a read of each kind.
-pub mod Examples

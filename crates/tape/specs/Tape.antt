@@ -1,5 +1,5 @@
 -- The bench tape, in the order and words of 02, M-109, with the limits of M-110. `k` is the largest number of groups, `most` the longest packet.
-use Rattle.std.specs.Prelude.{◌≡◌, Bool, false, not, ◌↔◌, List, [], ◌∷◌, ◌++◌, ℕ, zero, suc, ◌+◌, ◌*◌, ◌-◌, ◌/◌, ◌%◌, eqb, ltb, length, take, drop, get_or}
+use Rattle.std.specs.Prelude.{◌≡◌, Bool, false, not, ◌↔◌, List, [], ◌∷◌, ◌++◌, ℕ, zero, suc, ◌+◌, ◌*◌, ◌-◌, ◌/◌, ◌%◌, ◌^◌, ◌<◌, eqb, ltb, length, take, drop, get_or}
 use Rattle.answer.specs.Answer.{done, shape, room, size, pick, outside, first_of, on_done}
 use Rattle.octets.specs.Octets.{Octets, written}
 use Rattle.mppe.specs.Link.{front, shortest_plain, longest_plain}
@@ -140,6 +140,10 @@ behind packet c = record { packets = packet ∷ c.packets; answer = c.answer; of
 -- that of a tape which holds these packets and nothing else
 abbrev pub holding : (tape : List ℕ) → List (List ℕ) → Contents
 holding tape ps = record { packets = ps; answer = done; offset = length tape }
+
+-- each length up to that of the longest packet has at most k groups
+abbrev pub Fits : (k most : ℕ) → Type 0
+Fits k most = most < 128 ^ k
 
 -- packets that a tape can hold
 unfoldable pub Writable : (most : ℕ) → List (List ℕ) → Type 0

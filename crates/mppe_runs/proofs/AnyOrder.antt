@@ -13,11 +13,11 @@ use Rattle.octets.specs.Octets.{written}
 use Rattle.mppe_keys.specs.declared.Strength.{Strength}
 use Rattle.mppe_keys.specs.Keys.{key_length, changes}
 use Rattle.mppe.specs.declared.Link.{Link}
-use Rattle.mppe.specs.Link.{longest_plain, counts, farthest, Result, finished, refusal, open_code, open_result}
-use Rattle.mppe.specs.Laws.{open_other, no_waiting}
+use Rattle.mppe.specs.Link.{longest_plain, farthest, Result, finished, refusal, open_code, open_result}
+use Rattle.mppe.proofs.Laws.{open_other, no_waiting}
 use Rattle.mppe_runs.specs.Run.{OpenCall, arrival, other, Packet, History, open_run, beginning, packets, numbered}
-use Rattle.mppe_runs.specs.AnyOrderRun.{most_ahead, most_behind, due_to, next_after, MeetsAny, due_any, AnyOrder}
-use Rattle.mppe_runs.specs.Line.{Sealable, key_at, record_at, history_at, packet_at, start_length, first_is_lem, seals_all, AllAt, packets_at, numbered_at, open_arrival, repeat_code, late_code}
+use Rattle.mppe_runs.specs.AnyOrderRun.{most_ahead, most_behind, LeavesNewest, due_to, next_after, MeetsAny, due_any, AnyOrder}
+use Rattle.mppe_runs.proofs.Line.{Sealable, key_at, record_at, history_at, packet_at, start_length, first_is_lem, seals_all, AllAt, packets_at, numbered_at, open_arrival, repeat_code, late_code}
 
 module _ (s : Strength) (start : List ℕ) (h : length start ≡ key_length s) (limit far : ℕ) where
   -- a call that the table refuses changes nothing
@@ -28,7 +28,7 @@ module _ (s : Strength) (start : List ℕ) (h : length start ≡ key_length s) (
       let not11 = no_waiting limit far l octets (length lent) (unfold record_at in refl) in
       open_other limit far l octets lent (λ z. not0 (sym e ∙ z)) not11 ∙ ap (λ n. refusal n l lent) e
 
-  module _ (ahead behind : ℕ) (within : ahead ≤ far) (bound : far + behind < counts) where
+  module _ (ahead behind : ℕ) (within : ahead ≤ far) (bound : LeavesNewest far behind) where
     -- the newest opened is refused with 6, one behind it with 10
     behind_code : (next q : ℕ) (plain : List ℕ) (lent : ℕ) → Sealable limit plain → q < next → next ≤ suc q + behind
         → open_code limit far (record_at s start next) (packet_at s start q plain).octets lent ≡ pick (eqb (suc q) next) repeat late
@@ -94,7 +94,7 @@ module _ (s : Strength) (start : List ℕ) (h : length start ≡ key_length s) (
         (ap (λ (rs : List Result). refusal code (record_at s start next) lent ∷ rs) (opens_all ps next cs all rest))
 
 -- M-105 for every limit, every farthest distance and all bounds that fit it
-pub any_order : (limit far ahead behind : ℕ) → ahead ≤ far → far + behind < counts → AnyOrder limit far ahead behind
+pub any_order : (limit far ahead behind : ℕ) → ahead ≤ far → LeavesNewest far behind → AnyOrder limit far ahead behind
 unfolding AnyOrder
 any_order limit far ahead behind within bound s start ok seals opens line =
     let h = start_length s start ok in

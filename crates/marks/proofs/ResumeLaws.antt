@@ -1,4 +1,4 @@
--- Opening on, proved: `opens-on` at the end is the claim.
+-- Opening on, proved: `opens_on` at the end is the claim.
 use Rattle.std.proofs.Math.Path.{◌≡◌, refl, ap}
 use Rattle.std.proofs.Common.{sym, ◌∙◌, length-drop, drop_of_length-le, take_at, drop_at, ltb-true, ltb-false}
 use Rattle.std.specs.Prelude.{Bool, eqb, ltb, take, drop, get_or, replicate}
@@ -12,20 +12,20 @@ use Rattle.answer.specs.Answer.{done, waiting, pick, on_done}
 use Rattle.answer.specs.Laws.{within}
 use Rattle.octets.specs.Octets.{Octets}
 use Rattle.rc4.specs.Cipher.{run}
-use Rattle.rc4.specs.Laws.{run_length}
+use Rattle.rc4.proofs.Laws.{run_length}
 use Rattle.mppe.specs.declared.Link.{Link}
 use Rattle.mppe.specs.declared.Outcome.{Outcome}
 use Rattle.mppe.specs.Link.{front, longest_plain, farthest, Result, header_in, data_in, state_for, plain_for, open_code, opened_by, open_result, refusal, waited}
-use Rattle.mppe.specs.Laws.{open_room}
+use Rattle.mppe.proofs.Laws.{open_room}
 use Rattle.tape.specs.Tape.{first_octet, shortest_packet, most_groups, groups, Contents, record_size, record_of, records_of, tape_of, Writable, read_from, contents, holding, ReadsBack}
-use Rattle.tape.specs.Laws.{reads_records, records_only, reads_back, records_count, records_append, writable_behind}
+use Rattle.tape.proofs.Laws.{reads_records, records_only, reads_back, records_count, records_append, writable_behind}
 use Rattle.tape.specs.Replay.{Step, Held, held, held_by, fed, replay, held_after, at_end}
-use Rattle.tape.specs.ReplayLaws.{replay_from}
+use Rattle.tape.proofs.ReplayLaws.{replay_from}
 use Rattle.marks.specs.declared.Mark.{Mark}
 use Rattle.marks.specs.declared.MarkRead.{MarkRead}
-use Rattle.marks.specs.Marks.{every, mark_length, mark_octets, marks_octets, mark_read, start_at, Opened, opened, onward, walk, reached, kept, marks_from, marks_of, checked}
+use Rattle.marks.specs.Marks.{every, mark_length, mark_octets, marks_octets, mark_read, start_at, Opened, opened, onward, walk, reached, marks_from, marks_of}
 use Rattle.marks.specs.Resume.{Shows, ShowsTo, mark_at, Resumes, OpensOn}
-use Rattle.marks.specs.Laws.{Whole, Markable, mark_length_lem, mark_back, check_yes, onward_whole, onward_opened, kept_is, marks_length, marks_number}
+use Rattle.marks.proofs.Laws.{Whole, Markable, mark_length_lem, mark_back, check_yes, onward_whole, onward_opened, kept_is, marks_length, marks_number}
 
 module _ (k limit far : ℕ) where
   -- a walk over two lists, one behind the other

@@ -16,7 +16,7 @@ use Rattle.mppe_keys.specs.declared.Mode.TheVariants.{Stateless}
 use Rattle.mppe_keys.specs.Keys.{key_change, changes, rc4}
 use Rattle.mppe.specs.declared.Link.{Link}
 use Rattle.mppe.specs.Link.{well_formed, start_key_in, session_key_in, renewed, with_box, kept_box, off_protocol, sealed_packet, header_in, data_in, count_of, lacks, bit_a, bit_d, changes_over, Result, finished, refusal, plain_rows, next_count, next_changes, next_key, keys_afresh, next_box, seal_code, seal_result, away_for, changes_for, key_for, opens, state_for, plain_for, front_rows, data_rows, open_rows, open_code, open_result}
-use Rattle.mppe.specs.Laws.{no_waiting, well_box, fits_unmarked}
+use Rattle.mppe.proofs.Laws.{no_waiting, well_box, fits_unmarked}
 
 -- "Sender: count + 1 mod 4,096, one key change, then RC4 freshly keyed with the session key over the plain packet"
 abbrev pub key_before : Link → List ℕ

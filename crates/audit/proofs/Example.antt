@@ -8,12 +8,12 @@ use Rattle.mppe_keys.specs.declared.Strength.{Strength}
 use Rattle.mppe_keys.specs.declared.Strength.TheVariants.{Bits40, Bits128}
 use Rattle.mppe_keys.specs.declared.Mode.TheVariants.{Stateless}
 use Rattle.mppe_keys.specs.Keys.{key_length, head_of, begins, initial_key, changes, placed}
-use Rattle.mppe_keys.specs.Laws.{key_most, placed_length, initial_key_length, changes_length}
+use Rattle.mppe_keys.proofs.Laws.{key_most, placed_length, initial_key_length, changes_length}
 use Rattle.mppe.specs.declared.Link.{Link}
 use Rattle.mppe.specs.Link.{longest_plain, farthest, counts, zeros, well_formed, packet_on, finished}
-use Rattle.mppe.specs.Laws.{unkeyed_fits, Box, after_box, keyed_box}
-use Rattle.mppe_runs.specs.Line.{Sealable, key_at as key_after, record_at, packet_at, open_arrival}
-use Rattle.mppe_runs.specs.Stateful.{key_at, held_at, made_at, fresh_opens}
+use Rattle.mppe.proofs.Laws.{unkeyed_fits, Box, after_box, keyed_box}
+use Rattle.mppe_runs.proofs.Line.{Sealable, key_at as key_after, record_at, packet_at, open_arrival}
+use Rattle.mppe_runs.proofs.Stateful.{key_at, held_at, made_at, fresh_opens}
 use Rattle.audit.specs.Laws.{changed, first, second, alone}
 
 -- a record made by hand, of its strength and session key
@@ -41,7 +41,7 @@ unfolding changed changes placed
 not_without_places e = suc-ne-zero 15 (ap (λ (l : Link). length l.session) e)
 
 -- Two packets i and j of one sender, from the record of a receiver that is done with those before `next`: at every strength and from every start key,
--- whatever is in them, all three opens that `reports-add` speaks of answer 0.
+-- whatever is in them, all three opens that `reports_add` speaks of answer 0.
 module _ (s : Strength) (start : List ℕ) (h : length start ≡ key_length s) (next i j : ℕ) (low : next ≤ i) (later : i < j) (near : j - next < farthest)
     (p q a b : List ℕ) (p-can : Sealable longest_plain p) (q-can : Sealable longest_plain q) (p-fits : length p ≤ length a) (q-fits : length q ≤ length b) where
   -- a session key in its 16 places, after any number of key changes

@@ -8,7 +8,7 @@ use Rattle.mppe.specs.declared.Link.{Link}
 use Rattle.mppe.specs.Link.{longest_plain, counts, farthest, Result, finished, refusal, open_code}
 use Rattle.mppe_runs.specs.Run.{most_lost, OpenCall, arrival, other, Packet, beginning, first, packets, numbered, Meets, due, Demand3}
 use Rattle.mppe_runs.specs.AnyOrderRun.{MeetsAny, due_any, AnyOrder}
-use Rattle.mppe_runs.specs.AnyOrder.{any_order}
+use Rattle.mppe_runs.proofs.AnyOrder.{any_order}
 
 -- a line that demand 3 allows is one that M-105 allows with none behind, and the same is due on it
 rising : (limit far : ℕ) (s : Strength) (start : List ℕ) (ps : List Packet) (most next : ℕ) (held : Link) (cs : List OpenCall)

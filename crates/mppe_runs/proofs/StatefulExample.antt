@@ -15,7 +15,7 @@ use Rattle.mppe.specs.declared.Link.{Link}
 use Rattle.mppe.specs.Link.{longest_plain, farthest, new_link, Result}
 use Rattle.mppe_runs.specs.Run.{most_lost, SealCall, OpenCall, arrival, said_code, open_run}
 use Rattle.mppe_runs.specs.StatefulRun.{SendCall, seal, reset, History, Packet, first, beginning, sealed_on, packet_of, asked, onward, packets, numbered, opened, due_of, Meets, due, StatefulRun}
-use Rattle.mppe_runs.specs.Stateful.{stateful_run_base}
+use Rattle.mppe_runs.proofs.Stateful.{stateful_run_base}
 
 abbrev plain : List ℕ
 plain = 0x00 ∷ 0x21 ∷ []

@@ -12,7 +12,7 @@ use Rattle.mppe_keys.specs.declared.Strength.{Strength}
 use Rattle.mppe_keys.specs.declared.Mode.TheVariants.{Stateless}
 use Rattle.mppe.specs.Link.{longest_plain, farthest, new_link, Result}
 use Rattle.mppe_runs.specs.Run.{most_lost, SealCall, OpenCall, arrival, Packet, History, first, beginning, said_code, packet_of, onward, packets, numbered, open_run, Meets, due, Demand3}
-use Rattle.mppe_runs.specs.Demand3.{demand_3_base}
+use Rattle.mppe_runs.proofs.Demand3.{demand_3_base}
 
 abbrev pub plain : List ℕ
 plain = 0x00 ∷ 0x21 ∷ []

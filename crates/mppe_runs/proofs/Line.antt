@@ -16,14 +16,14 @@ use Rattle.answer.specs.Laws.{clear, rows_pass, right, right_length}
 use Rattle.octets.specs.Octets.{written}
 use Rattle.rc4.specs.declared.Rc4.{Rc4}
 use Rattle.rc4.specs.Cipher.{unkeyed, key_schedule, after}
-use Rattle.rc4.specs.Laws.{run_length, run_twice}
+use Rattle.rc4.proofs.Laws.{run_length, run_twice}
 use Rattle.mppe_keys.specs.declared.Strength.{Strength}
 use Rattle.mppe_keys.specs.declared.Mode.TheVariants.{Stateless}
 use Rattle.mppe_keys.specs.Keys.{key_length, initial_key, key_change, changes, rc4}
-use Rattle.mppe_keys.specs.Laws.{initial_key_length, initial_key_head, changes_length, changes_head, changes_add}
+use Rattle.mppe_keys.proofs.Laws.{initial_key_length, initial_key_head, changes_length, changes_head, changes_add}
 use Rattle.mppe.specs.declared.Link.{Link}
 use Rattle.mppe.specs.Link.{shortest_plain, counts, new_count, well_formed, start_key_in, session_key_in, renewed, next_key, next_count, link_of, new_link, new_link_code, off_protocol, sealed_packet, packet_on, header_in, data_in, distance, Result, finished, refusal, plain_rows, seal_code, next_changes, keys_afresh, next_box, kept_box, with_box, count_of, seal_result, changes_over, away_for, changes_for, key_for, state_for, plain_for, front_rows, header_rows, data_rows, open_code, open_result}
-use Rattle.mppe.specs.Laws.{key_back, well, unkeyed_fits, header_of, front_none, sealed_header, header_count, header_A, header_D, distance_is, distance_none, distance_behind}
+use Rattle.mppe.proofs.Laws.{key_back, well, unkeyed_fits, header_of, front_none, sealed_header, header_count, header_A, header_D, distance_is, distance_none, distance_behind}
 use Rattle.mppe_runs.specs.Run.{SealCall, Packet, History, seal_run, said_code, first, packet_of, onward, packets, said, numbered}
 
 -- a packet that may be sealed: its plain packet is within the limit and has a protocol number that is carried

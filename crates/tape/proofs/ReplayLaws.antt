@@ -9,9 +9,9 @@ use Rattle.std.proofs.Math.ListN.{length, length-drop}
 use Rattle.answer.specs.Answer.{not_record, pick}
 use Rattle.answer.specs.Laws.{within}
 use Rattle.mppe.specs.Link.{front, longest_plain, farthest, well_formed, Result, refusal, open_result}
-use Rattle.mppe.specs.Laws.{open_well}
+use Rattle.mppe.proofs.Laws.{open_well}
 use Rattle.tape.specs.Tape.{first_octet, shortest_packet, most_groups, Read, on_packet, read_at, record_size, record_of, records_of, tape_of, Writable}
-use Rattle.tape.specs.Laws.{on_packet_lem, past, read_end, read_record}
+use Rattle.tape.proofs.Laws.{on_packet_lem, past, read_end, read_record}
 use Rattle.tape.specs.Replay.{step_of, Held, held_by, at_end, replay_step, replay, fed, held_after, Replays}
 
 -- what holds of a refusal and of everything that open gives holds of a step

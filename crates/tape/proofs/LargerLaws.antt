@@ -1,4 +1,4 @@
--- Larger limits, proved: `reads-as-before`, `tapes-as-before`, `writes-as-before` and `replays-as-before` are the claims.
+-- Larger limits, proved: `reads_as_before`, `tapes_as_before`, `writes_as_before` and `replays_as_before` are the claims.
 use Rattle.std.specs.Prelude.{◌≡◌, Bool, eqb, ltb, length, drop}
 use Rattle.std.proofs.Math.Path.{refl}
 use Rattle.std.proofs.Common.{sym, ◌∙◌, inl, inr, arith, lit≤, length-take, ltb-true, ltb-false}
@@ -8,11 +8,11 @@ use Prim.Native.Nat.{ℕ, zero, suc, ◌+◌, ◌-◌, ◌^◌, ◌<◌, ◌≤�
 use Rattle.answer.specs.Answer.{done, shape, outside, first_of, on_done, pick}
 use Rattle.answer.specs.Laws.{clear, within, outside_larger}
 use Rattle.mppe.specs.Link.{front, longest_plain, farthest}
-use Rattle.mppe.specs.Larger.{open_larger}
+use Rattle.mppe.proofs.Larger.{open_larger}
 use Rattle.tape.specs.Tape.{shortest_packet, longest_packet, most_groups, groups, with_low, length_in, Read, reading, record_size, record_of, records_of, tape_of, write_code, write_answer, write_out, place_rows, length_at, packet_at, record_rows, record_read, read_at, on_packet, Writable, read_on, contents}
 use Rattle.tape.specs.Replay.{replay_step}
-use Rattle.tape.specs.Laws.{Split, split, groups_one, groups_more, length_one, length_more}
-use Rattle.tape.specs.Larger.{groups_before, plain_before, ReadsAsBefore, TapesAsBefore, WritesAsBefore, ReplaysAsBefore}
+use Rattle.tape.proofs.Laws.{Split, split, groups_one, groups_more, length_one, length_more}
+use Rattle.tape.specs.Larger.{groups_before, plain_before, Carried, NoFewer, NoShorter, ReadsAsBefore, TapesAsBefore, WritesAsBefore, ReplaysAsBefore}
 
 -- more groups change no length that is written in fewer ..
 groups_before_lem : (k k' n : ℕ) → 0 < n → n < 128 ^ k → k ≤ k' → groups k' n ≡ groups k n
@@ -42,7 +42,7 @@ length_before (suc k) (suc k') (g ∷ l) more some = by (ltb g 128) refl (length
         let h = ltb-false g 128 e in
         rw (length_more k' g l h, length_more k g l h) (kept (length_in k l) (length_in k' l) (rw (length_more k g l h) at some) ih)
 
-module _ (k most k' most' : ℕ) (fits : most < 128 ^ k) (more : k ≤ k') (larger : most ≤ most') where
+module _ (k most k' most' : ℕ) (fits : Carried k most) (more : NoFewer k k') (larger : NoShorter most most') where
   -- a length that was carried has the same groups
   same_groups : (n : ℕ) → outside shortest_packet most n ≡ false → groups k' n ≡ groups k n
   same_groups n carried =

@@ -1,4 +1,4 @@
--- A packet opened behind another call, and alone: `opens-alike` at the end.
+-- A packet opened behind another call, and alone: `opens_alike` at the end.
 use Rattle.std.specs.Prelude.{◌≡◌, refl, Bool, true, false, not, ◌≢◌, List, eqb, ltb, length, take, drop}
 use Rattle.std.proofs.Math.Path.{sym}
 use Rattle.std.proofs.Common.{ap, ◌∙◌, zero-add, arith, ne_eqb, ltb-false, eqb-true}
@@ -10,11 +10,11 @@ use Rattle.rc4.specs.declared.Rc4.{Rc4}
 use Rattle.rc4.specs.Cipher.{after}
 use Rattle.mppe_keys.specs.declared.Mode.{Mode}
 use Rattle.mppe_keys.specs.declared.Mode.TheVariants.{Stateless, Stateful}
-use Rattle.mppe_keys.specs.Keys.{by_mode, changes}
-use Rattle.mppe_keys.specs.Laws.{changes_add}
+use Rattle.mppe_keys.specs.Keys.{by_mode}
+use Rattle.mppe_keys.proofs.Laws.{changes_add}
 use Rattle.mppe.specs.declared.Link.{Link}
 use Rattle.mppe.specs.Link.{counts, well_formed, start_key_in, session_key_in, with_box, renewed, kept_box, bit_a, header_in, data_in, count_of, lacks, changes_over, away_for, changes_for, key_for, box_for, opens_by, state_for, plain_for, Result, finished, open_rows, open_code, open_result}
-use Rattle.mppe.specs.Laws.{well_parts, changed_back, changes_over_add, distance_back, distance_add, open_answers, open_other, open_done, open_waits, open_record, waits_stateful}
+use Rattle.mppe.proofs.Laws.{well_parts, changed_back, changes_over_add, distance_back, distance_add, open_answers, open_other, open_done, open_waits, open_record, waits_stateful}
 
 -- `limit` is the longest plain packet, `far` the farthest distance that is opened
 module _ (limit far : ℕ) where

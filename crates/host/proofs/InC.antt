@@ -11,13 +11,13 @@ use Rattle.mppe.specs.declared.Link.{Link}
 use Rattle.mppe.specs.Link.{Result, longest_plain, farthest, new_link, new_link_code, seal_result, open_result}
 use Rattle.mppe_runs.specs.Run.{SealCall, OpenCall, octets_lent, room_lent, Packet, first, beginning, seal_run, open_run, packets, said, Demand3}
 use Rattle.mppe_runs.specs.AnyOrderRun.{AnyOrder}
-use Rattle.mppe_runs.specs.Demand3.{demand_3_base}
-use Rattle.mppe_runs.specs.AnyOrder.{any_order_base}
+use Rattle.mppe_runs.proofs.Demand3.{demand_3_base}
+use Rattle.mppe_runs.proofs.AnyOrder.{any_order_base}
 use Rattle.mppe_record.specs.Record.{strength_of, record_length, record_octets}
-use Rattle.mppe_record.specs.Laws.{bits_back, bits_known, Sized, record_octets_length, reads_back, new_sized, seal_sized, open_sized}
+use Rattle.mppe_record.proofs.Laws.{bits_back, bits_known, Sized, record_octets_length, reads_back, new_sized, seal_sized, open_sized}
 use Rattle.tape.specs.Tape.{most_groups, record_size, tape_of}
 use Rattle.tape.specs.Replay.{Step, step_of, held, at_end, held_after, replay, fed, Replays}
-use Rattle.tape.specs.ReplayLaws.{of_step, replays_base}
+use Rattle.tape.proofs.ReplayLaws.{of_step, replays_base}
 use Rattle.host.specs.Host.{Given, Linked, new_link_given, linked_by, linked, seal_linked, open_linked, step_with, replay_linked, replay_offset}
 use Rattle.host.specs.Laws.{linked_on, given_fits, new_whole}
 use Rattle.host.specs.Run.{Begun, seals_linked, opens_linked, RunInC, Demand3InC, AnyOrderInC, StepInC, replay_in_c, fed_in_c, end_in_c, ReplaysInC}

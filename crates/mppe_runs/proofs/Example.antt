@@ -12,8 +12,8 @@ use Rattle.mppe_keys.specs.Keys.{key_length, changes}
 use Rattle.mppe.specs.declared.Link.{Link}
 use Rattle.mppe.specs.Link.{longest_plain, farthest, new_link, Result, finished, refusal, open_code}
 use Rattle.mppe_runs.specs.Run.{most_lost, SealCall, OpenCall, arrival, other, Packet, seal_run, open_run, first, beginning, said_code, packet_of, onward, packets, said, numbered, Meets, due, Demand3}
-use Rattle.mppe_runs.specs.Line.{key_at, record_at, history_at, packet_at, start_length, first_is_lem, well_at, packet_is, repeat_code, late_code}
-use Rattle.mppe_runs.specs.Demand3.{demand_3_base}
+use Rattle.mppe_runs.proofs.Line.{key_at, record_at, history_at, packet_at, start_length, first_is_lem, well_at, packet_is, repeat_code, late_code}
+use Rattle.mppe_runs.proofs.Demand3.{demand_3_base}
 
 -- what is due to a call that is no arrival, also where no schedule is met: the first number that applies, and nothing moves
 pub due_other : (limit far : ℕ) (s : Strength) (start : List ℕ) (sealed : List Packet) (next : ℕ) (held : Link) (octets room : List ℕ) (cs : List OpenCall)

@@ -17,13 +17,13 @@ use Rattle.mppe_keys.specs.Keys.{changes}
 use Rattle.mppe.specs.declared.Link.{Link}
 use Rattle.mppe.specs.declared.Outcome.{Outcome}
 use Rattle.mppe.specs.Link.{longest_plain, farthest, new_link, header_in, data_in, Result, finished, refusal, data_rows, open_code, open_result}
-use Rattle.mppe.specs.Laws.{open_answers}
+use Rattle.mppe.proofs.Laws.{open_answers}
 use Rattle.mppe_runs.specs.Run.{OpenCall, arrival, other, Packet, first, beginning, numbered, open_run}
 use Rattle.mppe_runs.specs.AnyOrderRun.{most_ahead, most_behind, due_to, next_after, MeetsAny, due_any, AnyOrder}
-use Rattle.mppe_runs.specs.Line.{key_at, record_at, history_at, packet_at, start_length, first_is_lem, AllAt, packets_at, numbered_at, beyond_code, round_code}
-use Rattle.mppe_runs.specs.AnyOrder.{any_order_base}
-use Rattle.mppe_runs.specs.Example.{noise, noise_first}
-use Rattle.mppe_runs.specs.AtLimit.{plain, calls, sealed_length, sealed_plain, sealed}
+use Rattle.mppe_runs.proofs.Line.{key_at, record_at, history_at, packet_at, start_length, first_is_lem, AllAt, packets_at, numbered_at, beyond_code, round_code}
+use Rattle.mppe_runs.proofs.AnyOrder.{any_order_base}
+use Rattle.mppe_runs.proofs.Example.{noise, noise_first}
+use Rattle.mppe_runs.proofs.AtLimit.{plain, calls, sealed_length, sealed_plain, sealed}
 
 -- the users' numbers
 pub bounds : (most_ahead ≡ 2048) × (most_behind ≡ 2047)

@@ -16,18 +16,18 @@ use Rattle.answer.specs.Laws.{clear, rows_pass, right, right_length}
 use Rattle.octets.specs.Octets.{written}
 use Rattle.rc4.specs.declared.Rc4.{Rc4}
 use Rattle.rc4.specs.Cipher.{unkeyed, key_schedule, run, after}
-use Rattle.rc4.specs.Laws.{run_length, run_twice, after_length}
-use Rattle.rc4.specs.Permutation.{unkeyed_found, unkeyed_permutation}
+use Rattle.rc4.proofs.Laws.{run_length, run_twice, after_length}
+use Rattle.rc4.proofs.Permutation.{unkeyed_found, unkeyed_permutation}
 use Rattle.mppe_keys.specs.declared.Strength.{Strength}
 use Rattle.mppe_keys.specs.declared.Mode.TheVariants.{Stateful}
 use Rattle.mppe_keys.specs.Keys.{key_length, by_mode, initial_key, key_change, changes}
-use Rattle.mppe_keys.specs.Laws.{initial_key_length, initial_key_head, changes_length, changes_head, changes_add}
+use Rattle.mppe_keys.proofs.Laws.{initial_key_length, initial_key_head, changes_length, changes_head, changes_add}
 use Rattle.ccp.specs.Reset.{reset_rows}
 use Rattle.mppe.specs.declared.Link.{Link}
 use Rattle.mppe.specs.Link.{longest_plain, counts, new_count, farthest, box_fits, well_formed, start_key_in, session_key_in, link_of, renewed, with_box, kept_box, new_link, new_link_code, off_protocol, packet_on, header_in, data_in, count_of, endings, changes_over, Result, finished, unopened, refusal, plain_rows, next_count, next_changes, next_key, keys_afresh, next_box, seal_code, seal_result, away_for, changes_for, key_for, box_for, opens, state_for, plain_for, link_after, front_rows, header_rows, data_rows, open_code, open_result, reset_code, reset_outcome}
-use Rattle.mppe.specs.Laws.{open_other, Box, after_box, keyed_box, picked_box, key_back, well, front_none, header_of, sealed_header, header_count, header_A, header_D, distance_is, endings_are}
+use Rattle.mppe.proofs.Laws.{open_other, Box, after_box, keyed_box, picked_box, key_back, well, front_none, header_of, sealed_header, header_count, header_A, header_D, distance_is, endings_are}
 use Rattle.mppe_runs.specs.Run.{most_lost, SealCall, OpenCall, arrival, other, said_code, open_run}
-use Rattle.mppe_runs.specs.Line.{Sealable}
+use Rattle.mppe_runs.proofs.Line.{Sealable}
 use Rattle.mppe_runs.specs.StatefulRun.{SendCall, seal, reset, History, Packet, first, beginning, held_by, ends, next_session, freshly, box_used, sealed_on, packet_of, asked, numbered, send_run, onward, packets, said_of, said, opened, due_of, Meets, due, StatefulRun}
 
 module _ (s : Strength) (start : List ℕ) where
