@@ -1,4 +1,5 @@
 // The numbers a call may answer (01, "Numbers a call may answer", and 02). specs/Answer.antt has the same numbers for contracts.
+#![tactic(auto)]
 
 // No refusal applies.
 pub const DONE: u8 = 0;

@@ -1,2 +1,3 @@
 // The laws that auditors ask for. They are about the definitions of crates/rc4, crates/mppe_keys and crates/mppe, which the calls there are proved
-// to follow, so all there is of them is in specs/.
+// to follow: specs/ states them, proofs/ proves them.
+#![tactic(auto)]

@@ -1,8 +1,10 @@
 // What the benchmark calls from C: digests, ciphers, keys and packets over numbers and octet slices. A result is cut to the room lent.
+#![tactic(auto)]
+
 ghost use Rattle.std.specs.Prelude.{◌≡◌, ◌++◌, ◌≤◌};
 ghost use Rattle.answer.specs.Answer.{done};
 ghost use Rattle.md4.specs.Md4.{md4_answer};
-ghost use Rattle.sha1.specs.Sha1.{sha1_answer};
+ghost use Rattle.sha_1.specs.Sha1.{sha1_answer};
 ghost use Rattle.sha256.specs.Sha256.{sha256_answer};
 ghost use Rattle.sha256.specs.Hmac.{hmac_answer};
 ghost use Rattle.des.specs.Des.{encrypt_answer};
@@ -36,7 +38,7 @@ pub extern "C" fn bench_sha1(text: &[u8], out: &mut [u8]) -> u8
     ensures { (result ≡ (sha1_answer text.now).answer)
         × (out.new ≡ copied (sha1_answer text.now).octets out.old) }
 {
-    let d = sha1::sha1(text);
+    let d = sha_1::sha1(text);
     let digest = d.octets;
     octets::copy(&digest, out);
     d.answer

@@ -1,4 +1,6 @@
 // The last blocks of a padded message, for digests over blocks of 64 octets.
+#![tactic(auto)]
+
 ghost use Rattle.std.specs.Prelude.{◌≡◌, length};
 ghost use Rattle.blocks.specs.Blocks.{ending, tail_of};
 

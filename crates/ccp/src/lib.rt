@@ -1,4 +1,6 @@
 // The MPPE option of CCP (RFC 3078, section 2): read, written and replied to. Its Reset-Request: read and written.
+#![tactic(auto)]
+
 mod reset;
 
 ghost use Rattle.std.specs.Prelude.{◌≡◌, ◌∷◌};
@@ -27,7 +29,7 @@ const BIT_S: u32 = 0x40;
 const BIT_L: u32 = 0x20;
 
 // Strengths that are offered, or that a policy allows.
-#[derive(Drop)]
+#[derive(Clone, Copy)]
 pub struct Strengths {
     pub bits40: bool,
     pub bits56: bool,
@@ -35,7 +37,7 @@ pub struct Strengths {
 }
 
 // What an option offers, behind the number answered.
-#[derive(Drop)]
+#[derive(Clone, Copy)]
 pub struct Offer {
     pub answer: u8,
     pub mode: Mode,
@@ -43,14 +45,14 @@ pub struct Offer {
 }
 
 // What a responder picks.
-#[derive(Drop)]
+#[derive(Clone, Copy)]
 pub struct Choice {
     pub strength: Strength,
     pub mode: Mode,
 }
 
 // The reply to a request; a refusal has the number.
-#[derive(Drop)]
+#[derive(Clone, Copy)]
 pub enum Reply {
     Accept(Choice),
     CounterOffer(Choice),
@@ -58,7 +60,7 @@ pub enum Reply {
 }
 
 // The supported bits of an option, behind the number answered.
-#[derive(Drop)]
+#[derive(Clone, Copy)]
 struct Bits {
     answer: u8,
     word: u32,

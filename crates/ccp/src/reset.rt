@@ -10,7 +10,7 @@ const RESET_REQUEST: u8 = 14;
 const RESET_LENGTH: usize = 4;
 
 // What a request holds, behind the number answered.
-#[derive(Drop)]
+#[derive(Clone, Copy)]
 pub struct Reset {
     pub answer: u8,
     pub identifier: u8,

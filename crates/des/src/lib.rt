@@ -1,5 +1,7 @@
 // DES as FIPS 46-3 has it, for one block. The key has 56 bits; the parity bits are nowhere in it.
 // No branch goes by a bit of the key or the block; the places read from the tables do.
+#![tactic(auto)]
+
 mod tables;
 
 ghost use Rattle.std.specs.Prelude.{◌≡◌, ◌∷◌, [], ◌++◌, map, ℕ, ◌+◌, ◌-◌, ◌*◌, ◌/◌, ◌%◌, ◌^◌, ◌<◌, ◌≤◌, length, get_or, replicate};
@@ -22,14 +24,14 @@ const BLOCK_OCTETS: usize = 8;
 const TWO_SHIFTS: u32 = 0x7efc;
 
 // An answer: its number, and the block enciphered.
-#[derive(Drop)]
+#[derive(Clone, Copy)]
 pub struct Block {
     pub answer: u8,
     pub octets: [u8; 8],
 }
 
 // The halves L and R of a block.
-#[derive(Drop)]
+#[derive(Clone, Copy)]
 struct Halves {
     left: u32,
     right: u32,

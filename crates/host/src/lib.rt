@@ -1,4 +1,6 @@
 // What a concentrator written in C calls, over numbers and octets; include/udukemb.h says the same to C.
+#![tactic(auto)]
+
 ghost use Rattle.std.specs.Prelude.{◌≡◌, length, true, false};
 ghost use Rattle.answer.specs.Answer.{done, first_of};
 ghost use Rattle.mschap.specs.Answers.{check_response_answer, check_authenticator_answer};
@@ -19,7 +21,7 @@ use mschap::Checked;
 
 // The number answered, and whether what was received is what it must be; a refusal is a no.
 #[repr(C)]
-#[derive(Drop)]
+#[derive(Clone, Copy)]
 pub struct Check {
     pub answer: u8,
     pub yes: bool,
@@ -28,7 +30,7 @@ pub struct Check {
 // The number answered, whether the reply is an accept, the strength picked in bits, and whether the mode is stateful; a no and 0 where it
 // is refused.
 #[repr(C)]
-#[derive(Drop)]
+#[derive(Clone, Copy)]
 pub struct Reply {
     pub answer: u8,
     pub accept: bool,
@@ -38,7 +40,7 @@ pub struct Reply {
 
 // The number answered, and the key changes made; none where it is refused.
 #[repr(C)]
-#[derive(Drop)]
+#[derive(Clone, Copy)]
 pub struct Opened {
     pub answer: u8,
     pub changes: u16,
@@ -46,7 +48,7 @@ pub struct Opened {
 
 // The number answered, and the octets written; none where it is refused.
 #[repr(C)]
-#[derive(Drop)]
+#[derive(Clone, Copy)]
 pub struct Written {
     pub answer: u8,
     pub length: usize,
@@ -54,7 +56,7 @@ pub struct Written {
 
 // The number answered, and where a packet stands on a tape: from `start` up to `offset`, the offset after it.
 #[repr(C)]
-#[derive(Drop)]
+#[derive(Clone, Copy)]
 pub struct Next {
     pub answer: u8,
     pub start: usize,
@@ -63,7 +65,7 @@ pub struct Next {
 
 // The number answered, the key changes made, and the offset after the packet.
 #[repr(C)]
-#[derive(Drop)]
+#[derive(Clone, Copy)]
 pub struct Replayed {
     pub answer: u8,
     pub changes: u16,
@@ -72,7 +74,7 @@ pub struct Replayed {
 
 // The number answered, how many packets were opened before a mark, and the offset that follows; 0 where it is refused.
 #[repr(C)]
-#[derive(Drop)]
+#[derive(Clone, Copy)]
 pub struct Mark {
     pub answer: u8,
     pub opened: u64,
@@ -81,7 +83,7 @@ pub struct Mark {
 
 // The number answered, whether a list is that of a tape's marks, and how many of them it has from the first on; a refusal is a no, and 0.
 #[repr(C)]
-#[derive(Drop)]
+#[derive(Clone, Copy)]
 pub struct MarksChecked {
     pub answer: u8,
     pub yes: bool,

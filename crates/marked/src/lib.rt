@@ -1,1 +1,2 @@
-// The fourteen marked cases of 01. They are about the definitions alone, so all there is of them is in specs/Marked.antt.
+// The fourteen marked cases of 01. They are about the definitions alone: specs/Marked.antt states them, proofs/Proved.antt proves them.
+#![tactic(auto)]

@@ -1,4 +1,6 @@
 // Marks beside a tape: where a walk over the tape of a stateless link may be taken up again (02, M-111).
+#![tactic(auto)]
+
 ghost use Rattle.std.specs.Prelude.{◌≡◌, true, false, not, ◌&&◌, suc, ◌+◌, ◌*◌, ◌-◌, ◌/◌, ◌^◌, ◌≤◌, ◌<◌, ltb, length, take, drop, replicate};
 ghost use Rattle.answer.specs.Answer.{outside, on_done};
 ghost use Rattle.octets.specs.Octets.{from_big_endian, written, written_at, equal};
@@ -26,7 +28,7 @@ const TAPE_START: usize = 1;
 pub const EVERY: u64 = 256;
 
 // How many packets of a tape were opened, the offset that follows, and the link record.
-#[derive(Drop)]
+#[derive(Clone, Copy)]
 pub struct Mark {
     pub opened: u64,
     pub offset: usize,
@@ -34,14 +36,14 @@ pub struct Mark {
 }
 
 // The number answered, and the mark read; 40 bits, stateless and all else 0 where it is refused.
-#[derive(Drop)]
+#[derive(Clone, Copy)]
 pub struct MarkRead {
     pub answer: u8,
     pub mark: Mark,
 }
 
 // The number answered, whether the marks are those of the tape, and how many of them are from the first on; a no and 0 where it is refused.
-#[derive(Drop)]
+#[derive(Clone, Copy)]
 pub struct Checked {
     pub answer: u8,
     pub yes: bool,
@@ -49,7 +51,7 @@ pub struct Checked {
 }
 
 // What a walk over a tape finds beside a list: what the last read answers, how many marks there are, and how many of them the list has.
-#[derive(Drop)]
+#[derive(Clone, Copy)]
 struct Found {
     answer: u8,
     marks: usize,
@@ -80,6 +82,7 @@ pub fn write(start: Link, tape: &[u8], out: &mut [u8]) -> Written
 }
 
 // Reads a mark; refused as `size` where there are not 51 octets, then as `record` for a wrong strength or a record that is not well formed.
+#[tactic(auto, using(crate::proofs::InnerLaws::told_rules))]
 pub fn read(octets: &[u8]) -> MarkRead
     ensures { result ≡ mark_read octets.now }
 {

@@ -1,4 +1,6 @@
 // MD4 (RFC 1320) of a lent text.
+#![tactic(auto)]
+
 ghost use Rattle.std.specs.Prelude.{◌≡◌, ◌+◌, ◌*◌, ◌<◌, ◌≤◌, ltb, length, get_or};
 ghost use Rattle.answer.specs.Answer.{pick};
 ghost use Rattle.blocks.specs.Blocks.{rounds, absorbed as after_blocks, hashed as hashed_by};
@@ -9,14 +11,14 @@ ghost use Rattle.md4.specs.Md4.{initial, mixed as mixed_by, constant as constant
 use octets::{LONGEST_TEXT, Order, add, rotl};
 
 // The number answered, and the digest; zeros where it is refused.
-#[derive(Drop)]
+#[derive(Clone, Copy)]
 pub struct Digest {
     pub answer: u8,
     pub octets: [u8; 16],
 }
 
 // The words A, B, C and D.
-#[derive(Drop)]
+#[derive(Clone, Copy)]
 struct State {
     a: u32,
     b: u32,

@@ -1,5 +1,7 @@
 // MPPE's link in both modes: the record, sealing, opening and Reset-Requests (01, "Keys" and "Packets and counts"; 02, M-103; RFC 3078,
 // sections 3, 6 and 7).
+#![tactic(auto)]
+
 ghost use Rattle.std.specs.Prelude.{◌≡◌, true, false, ◌||◌, [], ◌∷◌, ◌+◌, ◌*◌, ◌%◌, ◌≤◌, ◌<◌, length, drop};
 ghost use Rattle.answer.specs.Answer.{pick, outside};
 ghost use Rattle.octets.specs.Octets.{written};
@@ -36,7 +38,7 @@ pub const FARTHEST: u16 = 2048;
 const LAST_COUNT: u16 = 4095;
 
 // A link record. Its calls take any, and say which are well formed.
-#[derive(Drop)]
+#[derive(Clone, Copy)]
 pub struct Link {
     pub strength: Strength,
     pub mode: Mode,
@@ -48,14 +50,14 @@ pub struct Link {
 }
 
 // What a new link is.
-#[derive(Drop)]
+#[derive(Clone, Copy)]
 pub struct NewLink {
     pub answer: u8,
     pub link: Link,
 }
 
 // What sealing and opening give beside the octets that they write: the key changes made, and the next link record.
-#[derive(Drop)]
+#[derive(Clone, Copy)]
 pub struct Outcome {
     pub answer: u8,
     pub changes: u16,
@@ -63,7 +65,7 @@ pub struct Outcome {
 }
 
 // What a record says of a packet before its data are there: the number answered, and the key changes that its count brings.
-#[derive(Drop)]
+#[derive(Clone, Copy)]
 pub struct Judged {
     pub answer: u8,
     pub changes: u16,

@@ -1,7 +1,9 @@
 // MPPE's keys (RFC 3079, section 3; RFC 3078, section 7.3).
+#![tactic(auto)]
+
 ghost use Rattle.std.specs.Prelude.{◌≡◌, true, false, ◌++◌, ◌+◌, ◌-◌, ◌≤◌, length, take, drop, replicate};
 ghost use Rattle.octets.specs.Octets.{written, longest_text};
-ghost use Rattle.sha1.specs.Sha1.{sha1 as digest_of};
+ghost use Rattle.sha_1.specs.Sha1.{sha1 as digest_of};
 ghost use Rattle.mppe_keys.specs.Keys.{key_length, by_mode, mode_if, magic1, from_client, phrase, key_text, head_of, begins, reduced, rc4, changes, placed as placed_key};
 ghost use Rattle.mppe_keys.specs.Answers.{master_key_answer, start_key_answer, new_key_answer, initial_key_answer, reduce_answer, key_change_answer, key_changes_answer, placed_changes, placed_cipher};
 ghost use Rattle.mppe_keys.specs.Inner.{refused_key, Changed};
@@ -17,7 +19,7 @@ const RESPONSE_OCTETS: usize = 24;
 const FIXED: [u8; 3] = [0xD1, 0x26, 0x9E];
 
 // The strengths of a key, by its bits.
-#[derive(Drop)]
+#[derive(Clone, Copy)]
 pub enum Strength {
     Bits40,
     Bits56,
@@ -25,28 +27,28 @@ pub enum Strength {
 }
 
 // When the session key changes: with each packet, or with each 256th.
-#[derive(Drop)]
+#[derive(Clone, Copy)]
 pub enum Mode {
     Stateless,
     Stateful,
 }
 
 // Which end of the link asks.
-#[derive(Drop)]
+#[derive(Clone, Copy)]
 pub enum Role {
     Client,
     Server,
 }
 
 // Which way its packets go.
-#[derive(Drop)]
+#[derive(Clone, Copy)]
 pub enum Direction {
     Send,
     Receive,
 }
 
 // The number answered, and the key with zeros behind it; zeros where it is refused.
-#[derive(Drop)]
+#[derive(Clone, Copy)]
 pub struct Key {
     pub answer: u8,
     pub octets: [u8; 16],
@@ -324,7 +326,7 @@ fn digest_of(text: &[u8]) -> [u8; 20]
     requires { length text.now ≤ longest_text }
     ensures { result ≡ digest_of text.now }
 {
-    let d = sha1::sha1(text);
+    let d = sha_1::sha1(text);
     d.octets
 }
 

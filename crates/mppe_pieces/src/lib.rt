@@ -1,4 +1,6 @@
 // A packet opened in pieces, as a modem hands them out (02, M-104): begin with its front, feed the data, end. In both modes.
+#![tactic(auto)]
+
 ghost use Rattle.std.specs.Prelude.{◌≡◌, true, false, not, ◌&&◌, ◌||◌, [], ◌∷◌, ◌+◌, ◌≤◌, ◌<◌, eqb, ltb, length};
 ghost use Rattle.answer.specs.Answer.{done, shape, not_record, pick, wrong};
 ghost use Rattle.octets.specs.Octets.{written, pair_at};
@@ -18,7 +20,7 @@ const NUMBER: u16 = 2;
 // A packet that is being opened in pieces. Until a good end `link` is the record that begin got. `header` is the packet's, `session` its
 // session key, `state` RC4's after the octets fed, `total` the length of the data, `fed` how many of them were fed, `first` the first
 // protocol octet, opened, while it is the only octet fed. A walk that is over is not live, and holds nothing beside its record.
-#[derive(Drop)]
+#[derive(Clone, Copy)]
 pub struct Walk {
     pub live: bool,
     pub link: Link,
@@ -31,7 +33,7 @@ pub struct Walk {
 }
 
 // What begin, feed and end give: the key changes reported, and the next walk, with the link record in it.
-#[derive(Drop)]
+#[derive(Clone, Copy)]
 pub struct Step {
     pub answer: u8,
     pub changes: u16,

@@ -1,5 +1,7 @@
 // A link record as octets: strength in bits 1, start key 16, session key 16, last count 2 with its highest octet first; and behind these
 // 35 mode 1, waiting mark 1, RC4's indices 1 each, its cells 256.
+#![tactic(auto)]
+
 ghost use Rattle.std.specs.Prelude.{◌≡◌, ◌≤◌, length};
 ghost use Rattle.mppe_keys.specs.Keys.{bits_of};
 ghost use Rattle.mppe_record.specs.Record.{strength_of, no_strength, yes_number, front_octets, rest_octets, record_length, record_octets, front_in, record_in, no_record, record_read, front_length, stateless_read};
@@ -28,7 +30,7 @@ const MARK_AT: usize = 36;
 const STATE_AT: usize = 37;
 
 // The number answered, and the record read; 40 bits, stateless and all else 0 where it is refused.
-#[derive(Drop)]
+#[derive(Clone, Copy)]
 pub struct RecordRead {
     pub answer: u8,
     pub link: Link,
@@ -98,6 +100,7 @@ pub fn yes_number(holds: bool) -> u8
 }
 
 // Reads a link record; refused as `record` where the octets are not 295, the first is no strength, or the mode or the mark neither 0 nor 1.
+#[tactic(auto, using(crate::proofs::InnerLaws::not_mark))]
 pub fn read_record(octets: &[u8]) -> RecordRead
     ensures { result ≡ record_read octets.now }
 {
@@ -120,6 +123,7 @@ pub fn read_record(octets: &[u8]) -> RecordRead
 }
 
 // Reads a stateless record of its first 35 octets; refused as `record` where they are not 35, or the first is no strength.
+#[tactic(auto, using(crate::proofs::InnerLaws::not_front))]
 pub fn read_stateless(octets: &[u8]) -> RecordRead
     ensures { result ≡ stateless_read octets.now }
 {

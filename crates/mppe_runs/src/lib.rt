@@ -1,2 +1,3 @@
 // What is claimed of lists of calls at both ends of a link. The claims are about the definitions of crates/mppe alone, which its calls are proved
-// to follow, so all there is of them is in specs/.
+// to follow: specs/ states them, proofs/ proves them.
+#![tactic(auto)]

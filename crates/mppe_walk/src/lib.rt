@@ -1,5 +1,7 @@
 // A walk as octets: its link record 295; and behind it live 1, header 2, session key 16, RC4's indices 1 each, its cells 256, total 2, fed 2,
 // the first protocol octet 1. Numbers have their highest octet first.
+#![tactic(auto)]
+
 ghost use Rattle.std.specs.Prelude.{◌≡◌, length};
 ghost use Rattle.mppe_walk.specs.Walk.{key_octets, fed_octets, rest_put, walk_length, walk_octets, front_read, walk_in, no_walk, walk_read};
 
@@ -30,7 +32,7 @@ const FED_AT: usize = 574;
 const FIRST_AT: usize = 576;
 
 // The number answered, and the walk read; one that is over, with no record, where it is refused.
-#[derive(Drop)]
+#[derive(Clone, Copy)]
 pub struct WalkRead {
     pub answer: u8,
     pub walk: Walk,
@@ -100,6 +102,7 @@ fn fed_octets(walk: Walk) -> [u8; 5]
 }
 
 // Reads a walk; refused as `record` where the octets are not 577, do not begin with a record, or the walk is neither live nor not.
+#[tactic(auto, using(crate::proofs::Laws::not_live))]
 pub fn read_walk(octets: &[u8]) -> WalkRead
     ensures { result ≡ walk_read octets.now }
 {

@@ -1,9 +1,11 @@
 // MS-CHAPv2's hashes, responses and authenticator string, and the checks of the last two (RFC 2759, sections 8.1 to 8.8).
+#![tactic(auto)]
+
 ghost use Rattle.std.specs.Prelude.{◌≡◌, false, ◌∷◌, [], ◌++◌, ◌+◌, ◌/◌, ◌%◌, ◌<◌, ◌≤◌, length, take, drop, replicate};
 ghost use Rattle.answer.specs.Answer.{size, first_of};
 ghost use Rattle.octets.specs.Octets.{written, longest_text};
 ghost use Rattle.md4.specs.Md4.{md4 as md4_of};
-ghost use Rattle.sha1.specs.Sha1.{sha1 as sha1_of};
+ghost use Rattle.sha_1.specs.Sha1.{sha1 as sha1_of};
 ghost use Rattle.des.specs.Des.{encrypted};
 ghost use Rattle.mschap.specs.Name.{name_rows, hashed_name};
 ghost use Rattle.mschap.specs.Mschap.{challenge_response, hex_digit, encoded as encoded_of, signature as signature_of};
@@ -29,35 +31,35 @@ const STRING_LENGTH: usize = 42;
 const BACKSLASH: u8 = 0x5C;
 
 // The number answered, and the hash; zeros where it is refused.
-#[derive(Drop)]
+#[derive(Clone, Copy)]
 pub struct Hash {
     pub answer: u8,
     pub octets: [u8; 16],
 }
 
 // The number answered, and the challenge hash; zeros where it is refused.
-#[derive(Drop)]
+#[derive(Clone, Copy)]
 pub struct ChallengeHash {
     pub answer: u8,
     pub octets: [u8; 8],
 }
 
 // The number answered, and the NT-Response; zeros where it is refused.
-#[derive(Drop)]
+#[derive(Clone, Copy)]
 pub struct NtResponse {
     pub answer: u8,
     pub octets: [u8; 24],
 }
 
 // The number answered, and the authenticator string; zeros where it is refused.
-#[derive(Drop)]
+#[derive(Clone, Copy)]
 pub struct AuthenticatorString {
     pub answer: u8,
     pub octets: [u8; 42],
 }
 
 // The number answered, and whether what was received is what it must be; a refusal is a no.
-#[derive(Drop)]
+#[derive(Clone, Copy)]
 pub struct Checked {
     pub answer: u8,
     pub yes: bool,
@@ -404,7 +406,7 @@ fn sha1_of(a: &[u8], b: &[u8], c: &[u8]) -> [u8; 20]
     let mut text = [0u8; 288];
     join(a, b, c, &mut text);
     let n = a.len() + b.len() + c.len();
-    let d = sha1::sha1(&text[..n]);
+    let d = sha_1::sha1(&text[..n]);
     d.octets
 }
 

@@ -1,4 +1,6 @@
 // Challenge and Response packets (RFC 1994, section 4.1; RFC 2759, sections 3 and 4), read and written.
+#![tactic(auto)]
+
 ghost use Rattle.std.specs.Prelude.{◌≡◌, false, ◌≤◌, length};
 ghost use Rattle.octets.specs.Octets.{onward};
 ghost use Rattle.mschap_packets.specs.Packet.{packet_code, value_size, least_length, length_field, part, any_set, reserved, header as header_of, packet_of, response_value, read_code, challenge_read, response_read, name_of, name_at, write_code, write_out, challenge_code, challenge_out, response_code, response_out};
@@ -15,14 +17,14 @@ const RESPONSE_LENGTH: usize = 24;
 const LONGEST_NAME: usize = 256;
 
 // Which of the two packets it is.
-#[derive(Drop)]
+#[derive(Clone, Copy)]
 pub enum Kind {
     Challenge,
     Response,
 }
 
 // The number answered, and the fields of a Challenge; zeros where it is refused.
-#[derive(Drop)]
+#[derive(Clone, Copy)]
 pub struct Challenge {
     pub answer: u8,
     pub identifier: u8,
@@ -30,7 +32,7 @@ pub struct Challenge {
 }
 
 // The number answered, and the fields of a Response; zeros where it is refused.
-#[derive(Drop)]
+#[derive(Clone, Copy)]
 pub struct Response {
     pub answer: u8,
     pub identifier: u8,

@@ -1,4 +1,6 @@
 // Words of 32 bits and octets: sums and rotations of words, words as octets and back, copying, comparing.
+#![tactic(auto)]
+
 ghost use Rattle.std.specs.Prelude.{◌≡◌, ◌-◌, min, [], ◌∷◌, length, take};
 ghost use Rattle.octets.specs.Octets.{octets_of, from_big_endian, words_of, written, written_at, written_if_room, equal};
 ghost use Rattle.octets.specs.Words.{◌⊞◌, rotl as rotated_left, rotr as rotated_right};
@@ -7,7 +9,7 @@ ghost use Rattle.octets.specs.Words.{◌⊞◌, rotl as rotated_left, rotr as ro
 pub const LONGEST_TEXT: usize = 65535;
 
 // Which octet of a number stands in front.
-#[derive(Drop)]
+#[derive(Clone, Copy)]
 pub enum Order {
     HighestFirst,
     LowestFirst,

@@ -1,4 +1,6 @@
 // RC4: the key schedule, a draw, a run over a text, and a generator lent by reference (01, "Digests, DES and RC4").
+#![tactic(auto)]
+
 ghost use Rattle.std.specs.Prelude.{◌≡◌, true, ◌&&◌, [], ◌∷◌, ◌+◌, ◌%◌, ◌^◌, ◌<◌, ◌≤◌, eqb, length, get_or, replicate};
 ghost use Rattle.answer.specs.Answer.{done, pick, outside, first_of};
 ghost use Rattle.octets.specs.Octets.{written, longest_text};
@@ -16,7 +18,7 @@ pub const LONGEST_KEY: usize = 256;
 const NUMBER: usize = 2;
 
 // The box and both indices. Any octets are a state.
-#[derive(Drop)]
+#[derive(Clone, Copy)]
 pub struct Rc4 {
     pub cells: [u8; 256],
     pub i: u8,
@@ -24,21 +26,21 @@ pub struct Rc4 {
 }
 
 // What a key gives.
-#[derive(Drop)]
+#[derive(Clone, Copy)]
 pub struct Keyed {
     pub answer: u8,
     pub state: Rc4,
 }
 
 // What a draw gives.
-#[derive(Drop)]
+#[derive(Clone, Copy)]
 pub struct Drawn {
     pub octet: u8,
     pub state: Rc4,
 }
 
 // What a run gives beside the octets that it writes.
-#[derive(Drop)]
+#[derive(Clone, Copy)]
 pub struct Ran {
     pub answer: u8,
     pub state: Rc4,
@@ -386,7 +388,7 @@ fn run_words(cells: &mut [u32; 256], i: usize, j: u32, text: &[u8], out: &mut [u
 }
 
 // The number answered, and the next j, not wrapped mod 256.
-#[derive(Drop)]
+#[derive(Clone, Copy)]
 struct Judged {
     answer: u8,
     j: u32,
@@ -491,7 +493,7 @@ fn run_ones(cells: &mut [u32; 256], i: usize, j: u32, text: &[u8], out: &mut [u8
 }
 
 // Eight octets of keystream, the next j, not wrapped mod 256, and the cell that the next draw reads first.
-#[derive(Drop)]
+#[derive(Clone, Copy)]
 struct Eight {
     octets: [u8; 8],
     j: u32,
@@ -550,7 +552,7 @@ fn put_eight(octets: &[u8; 8], out: &mut [u8])
 }
 
 // The octet of a draw in place, the next j, not wrapped mod 256, and the cell that the next draw reads first.
-#[derive(Drop)]
+#[derive(Clone, Copy)]
 struct Advanced {
     octet: u8,
     j: u32,

@@ -1,4 +1,6 @@
 // SHA-256 (FIPS 180-4) and HMAC over it (RFC 2104) of lent texts.
+#![tactic(auto)]
+
 mod hmac;
 
 ghost use Rattle.std.specs.Prelude.{◌≡◌, ◌+◌, ◌*◌, ◌%◌, ◌<◌, ◌≤◌, length};
@@ -25,14 +27,14 @@ const K: [u32; 64] = [
 ];
 
 // The number answered, and the digest; zeros where it is refused.
-#[derive(Drop)]
+#[derive(Clone, Copy)]
 pub struct Digest {
     pub answer: u8,
     pub octets: [u8; 32],
 }
 
 // The hash value, and the working variables of a block's rounds.
-#[derive(Drop)]
+#[derive(Clone, Copy)]
 struct State {
     a: u32,
     b: u32,

@@ -1,4 +1,6 @@
 // The binding key of SSTP (MS-SSTP, section 3.2.5.2.4).
+#![tactic(auto)]
+
 ghost use Rattle.std.specs.Prelude.{◌≡◌, ◌++◌, length};
 ghost use Rattle.sstp.specs.Binding.{fitted as fitted_material, base_key_answer, binding_key_answer};
 ghost use Rattle.sstp.specs.Inner.{refused_key};
@@ -7,7 +9,7 @@ use mppe_keys::{KEY_PLACES, Role};
 use octets::LONGEST_TEXT;
 
 // The number answered, and the key; zeros where it is refused.
-#[derive(Drop)]
+#[derive(Clone, Copy)]
 pub struct Key {
     pub answer: u8,
     pub octets: [u8; 32],

@@ -1,4 +1,6 @@
 // The bench tape: packets of one direction as they arrived, written one behind the other, read back and replayed (02, M-109).
+#![tactic(auto)]
+
 ghost use Rattle.std.specs.Prelude.{◌≡◌, [], ◌+◌, ◌-◌, ◌^◌, ◌<◌, ◌≤◌, length, drop};
 ghost use Rattle.answer.specs.Answer.{outside, first_of};
 ghost use Rattle.octets.specs.Octets.{written, onward};
@@ -16,14 +18,14 @@ const MOST_GROUPS: usize = 3;
 const MORE: usize = 128;
 
 // What writing answers, and how many octets it wrote; none where it is refused.
-#[derive(Drop)]
+#[derive(Clone, Copy)]
 pub struct Written {
     pub answer: u8,
     pub length: usize,
 }
 
 // What a read answers, and where its packet stands: from `start` up to `offset`, the offset after it. There is none where they are equal.
-#[derive(Drop)]
+#[derive(Clone, Copy)]
 pub struct Next {
     pub answer: u8,
     pub start: usize,
@@ -31,7 +33,7 @@ pub struct Next {
 }
 
 // What a replay step gives: the outcome of opening the packet, or of a read that gives none, and the offset after it.
-#[derive(Drop)]
+#[derive(Clone, Copy)]
 pub struct Replayed {
     pub outcome: Outcome,
     pub offset: usize,
@@ -244,6 +246,7 @@ fn length_in(rest: &[u8]) -> usize
 }
 
 // What the groups from one on say, by what those behind it say.
+#[tactic(auto, using(crate::proofs::InnerLaws::no_length))]
 fn length_from(rest: &[u8], i: usize, high: usize) -> usize
     requires { (i < most_groups) × (high ≡ length_in (most_groups - (i + 1)) (drop (i + 1) rest.now)) × (high < 128 ^ (most_groups - (i + 1))) }
     ensures { (result ≡ length_in (most_groups - i) (drop i rest.now)) × (result < 128 ^ (most_groups - i)) }

@@ -1,0 +1,14 @@
+use Rattle.host.specs.Host.{seal_linked}
+use Rattle.host.proofs.Laws.{held_length, linked_none, linked_made, seal_told}
+use Rattle.host.proofs.udukemb_seal.Goals as goal
+
+pub returns-then-read-ne-DONE : goal.returns-then-read-ne-DONE
+unfolding seal_linked
+returns-then-read-ne-DONE c = seal_told (linked_none _ _ _ c.read_record-read.ensures c.if-read-ne-DONE.true)
+
+pub put_record-requires : goal.put_record-requires
+put_record-requires c = held_length _ c.read_record-read.ensures c.if-read-ne-DONE.false
+
+pub returns : goal.returns
+unfolding seal_linked
+returns c = seal_told (linked_made _ _ _ c.read_record-read.ensures c.if-read-ne-DONE.false c.seal-sealed.ensures c.put_record.ensures)

@@ -1,0 +1,19 @@
+use Rattle.mppe.proofs.InnerLaws.{zeros_more, zeros_not, zeros_end}
+use native.Mathlib.Omega.{arith}
+use mathlib.Core.Path.{refl}
+use borrow.Author.Rules.{rules}
+use Rattle.mppe.proofs.zeros_from.Goals as goal
+
+pub loop-i-init : goal.loop-i-init
+loop-i-init c = (search rules, refl)
+
+pub returns-then-places-i-ne0 : goal.returns-then-places-i-ne0
+returns-then-places-i-ne0 c = let a = c.args.places in zeros_not a c.loop-i.i c.loop-i.invariant.1 c.if-places-i-ne0.true (omega (arith, c.loop-i.invariant.0))
+
+pub loop-i-preserved : goal.loop-i-preserved
+loop-i-preserved c =
+    let a = c.args.places in
+    (c.loop-i.invariant.0, zeros_more a c.loop-i.i c.loop-i.invariant.1 c.if-places-i-ne0.false (omega (arith, c.loop-i.invariant.0)))
+
+pub returns : goal.returns
+returns c = let a = c.args.places in zeros_end a c.loop-i.i c.loop-i.invariant.1 (omega (arith, c.loop-i.invariant.0))

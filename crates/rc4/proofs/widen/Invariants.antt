@@ -1,0 +1,10 @@
+-- The first n words are the first n cells in each turn of `widen`.
+use Prim.Native.Nat.{◌-◌}
+use Rattle.rc4.proofs.Boxes.{Copied}
+use Rattle.rc4.proofs.widen.Given as goal
+
+abbrev pub invariant-loop-n : goal.invariant-loop-n
+invariant-loop-n l = Copied l.cells l.words l.n
+
+abbrev pub decreases-loop-n : goal.decreases-loop-n
+decreases-loop-n l = 256 - l.n

@@ -1,0 +1,6 @@
+use mathlib.Core.Path.{refl}
+use Rattle.sha256.proofs.Laws.{three}
+use Rattle.sha256.proofs.small_sigma.Goals as goal
+
+pub returns : goal.returns
+returns c = three _ _ _ c.rotr.ensures c.rotr-2.ensures refl
