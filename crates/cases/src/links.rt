@@ -4,59 +4,67 @@ use crate::packets::mode;
 use crate::{Numbers, low, tell};
 use mppe::{Link, Outcome};
 use mppe_keys::{Mode, Strength};
+use std::io;
+use std::io::Write;
 
 // The calls 64 to 68.
-pub fn call(n: Numbers, a: &[u8], b: &[u8], lent: &mut [u8]) {
+pub fn call<W: Write>(
+    writer: &mut W,
+    n: Numbers,
+    a: &[u8],
+    b: &[u8],
+    lent: &mut [u8],
+) -> io::Result<()> {
     let call = n.call;
     match call {
-        64 => tell_new(strength(n.x), mode(n.y), a),
-        65 => tell_seal(link(a), b, lent),
-        66 => tell_open(link(a), b, lent),
-        67 => tell_reset(link(a), b),
-        68 => tell_record(a),
-        _ => {}
+        64 => tell_new(writer, strength(n.x), mode(n.y), a),
+        65 => tell_seal(writer, link(a), b, lent),
+        66 => tell_open(writer, link(a), b, lent),
+        67 => tell_reset(writer, link(a), b),
+        68 => tell_record(writer, a),
+        _ => Ok(()),
     }
 }
 
 // A new link.
-fn tell_new(strength: Strength, mode: Mode, a: &[u8]) {
+fn tell_new<W: Write>(writer: &mut W, strength: Strength, mode: Mode, a: &[u8]) -> io::Result<()> {
     let new = Link::new(strength, mode, a);
     let link = new.link;
     let fields = link_fields(0, link);
-    tell(new.answer, &fields, &[]);
+    tell(writer, new.answer, &fields, &[])
 }
 
 // A packet sealed.
-fn tell_seal(link: Link, b: &[u8], lent: &mut [u8]) {
+fn tell_seal<W: Write>(writer: &mut W, link: Link, b: &[u8], lent: &mut [u8]) -> io::Result<()> {
     let sealed = link.seal(b, lent);
-    tell_outcome(sealed, lent);
+    tell_outcome(writer, sealed, lent)
 }
 
 // A packet opened.
-fn tell_open(link: Link, b: &[u8], lent: &mut [u8]) {
+fn tell_open<W: Write>(writer: &mut W, link: Link, b: &[u8], lent: &mut [u8]) -> io::Result<()> {
     let opened = link.open(b, lent);
-    tell_outcome(opened, lent);
+    tell_outcome(writer, opened, lent)
 }
 
 // A Reset-Request taken.
-fn tell_reset(link: Link, b: &[u8]) {
+fn tell_reset<W: Write>(writer: &mut W, link: Link, b: &[u8]) -> io::Result<()> {
     let taken = link.reset(b);
-    tell_outcome(taken, &[]);
+    tell_outcome(writer, taken, &[])
 }
 
 // A record read, and written again.
-fn tell_record(a: &[u8]) {
+fn tell_record<W: Write>(writer: &mut W, a: &[u8]) -> io::Result<()> {
     let read = mppe_record::read_record(a);
     let link = read.link;
     let fields = link_fields(0, link);
-    tell(read.answer, &fields, &[]);
+    tell(writer, read.answer, &fields, &[])
 }
 
 // What a link's call gives.
-fn tell_outcome(outcome: Outcome, lent: &[u8]) {
+fn tell_outcome<W: Write>(writer: &mut W, outcome: Outcome, lent: &[u8]) -> io::Result<()> {
     let next = outcome.link;
     let fields = link_fields(outcome.changes, next);
-    tell(outcome.answer, &fields, lent);
+    tell(writer, outcome.answer, &fields, lent)
 }
 
 // The link record of a case: any that a link can be, well formed or not.

@@ -1,109 +1,130 @@
 // Cases of digests and ciphers.
 use crate::{Numbers, low, tell};
 use rc4::Rc4;
+use std::io;
+use std::io::Write;
 
 // The calls 0 to 10.
-pub fn call(n: Numbers, a: &[u8], b: &[u8], c: &[u8], lent: &mut [u8]) {
+pub fn call<W: Write>(
+    writer: &mut W,
+    n: Numbers,
+    a: &[u8],
+    b: &[u8],
+    c: &[u8],
+    lent: &mut [u8],
+) -> io::Result<()> {
     let call = n.call;
     match call {
-        0 => tell_md4(a),
-        1 => tell_sha1(a),
-        2 => tell_sha256(a),
-        3 => tell_hmac(a, b),
-        4 => tell_des(a, b),
-        5 => tell_keyed(a),
-        6 => tell_run(state(n, a), b, lent),
-        7 => tell_draw(state(n, a)),
-        8 => tell_applied(a, b, lent),
-        9 => tell_tests(state(n, a)),
-        10 => tell_within(n, a, b, c, lent),
-        _ => {}
+        0 => tell_md4(writer, a),
+        1 => tell_sha1(writer, a),
+        2 => tell_sha256(writer, a),
+        3 => tell_hmac(writer, a, b),
+        4 => tell_des(writer, a, b),
+        5 => tell_keyed(writer, a),
+        6 => tell_run(writer, state(n, a), b, lent),
+        7 => tell_draw(writer, state(n, a)),
+        8 => tell_applied(writer, a, b, lent),
+        9 => tell_tests(writer, state(n, a)),
+        10 => tell_within(writer, n, a, b, c, lent),
+        _ => Ok(()),
     }
 }
 
 // MD4 of a text.
-fn tell_md4(a: &[u8]) {
+fn tell_md4<W: Write>(writer: &mut W, a: &[u8]) -> io::Result<()> {
     let d = md4::md4(a);
     let octets = d.octets;
-    tell(d.answer, &octets, &[]);
+    tell(writer, d.answer, &octets, &[])
 }
 
 // SHA-1 of a text.
-fn tell_sha1(a: &[u8]) {
-    let d = sha1::sha1(a);
+fn tell_sha1<W: Write>(writer: &mut W, a: &[u8]) -> io::Result<()> {
+    let d = sha_1::sha1(a);
     let octets = d.octets;
-    tell(d.answer, &octets, &[]);
+    tell(writer, d.answer, &octets, &[])
 }
 
 // SHA-256 of a text.
-fn tell_sha256(a: &[u8]) {
+fn tell_sha256<W: Write>(writer: &mut W, a: &[u8]) -> io::Result<()> {
     let d = sha256::sha256(a);
     let octets = d.octets;
-    tell(d.answer, &octets, &[]);
+    tell(writer, d.answer, &octets, &[])
 }
 
 // HMAC over SHA-256 of a key and a text.
-fn tell_hmac(a: &[u8], b: &[u8]) {
+fn tell_hmac<W: Write>(writer: &mut W, a: &[u8], b: &[u8]) -> io::Result<()> {
     let d = sha256::hmac_sha256(a, b);
     let octets = d.octets;
-    tell(d.answer, &octets, &[]);
+    tell(writer, d.answer, &octets, &[])
 }
 
 // DES of a key and a block.
-fn tell_des(a: &[u8], b: &[u8]) {
+fn tell_des<W: Write>(writer: &mut W, a: &[u8], b: &[u8]) -> io::Result<()> {
     let d = des::encrypt(a, b);
     let octets = d.octets;
-    tell(d.answer, &octets, &[]);
+    tell(writer, d.answer, &octets, &[])
 }
 
 // An RC4 key's state.
-fn tell_keyed(a: &[u8]) {
+fn tell_keyed<W: Write>(writer: &mut W, a: &[u8]) -> io::Result<()> {
     let k = Rc4::keyed(a);
     let state = k.state;
     let fields = state_fields(state);
-    tell(k.answer, &fields, &[]);
+    tell(writer, k.answer, &fields, &[])
 }
 
 // An RC4 run from a state: the state after it, and the lent buffer.
-fn tell_run(s: Rc4, text: &[u8], lent: &mut [u8]) {
+fn tell_run<W: Write>(writer: &mut W, s: Rc4, text: &[u8], lent: &mut [u8]) -> io::Result<()> {
     let ran = s.run(text, lent);
     let state = ran.state;
     let fields = state_fields(state);
-    tell(ran.answer, &fields, lent);
+    tell(writer, ran.answer, &fields, lent)
 }
 
 // A draw by value: the state after it, and the octet in the lent buffer's place.
-fn tell_draw(s: Rc4) {
+fn tell_draw<W: Write>(writer: &mut W, s: Rc4) -> io::Result<()> {
     let drawn = s.draw();
     let state = drawn.state;
     let fields = state_fields(state);
     let octet = drawn.octet;
-    tell(0, &fields, &[octet]);
+    tell(writer, 0, &fields, &[octet])
 }
 
 // RC4 keyed with a key, applied to a text: the lent buffer.
-fn tell_applied(key: &[u8], text: &[u8], lent: &mut [u8]) {
+fn tell_applied<W: Write>(
+    writer: &mut W,
+    key: &[u8],
+    text: &[u8],
+    lent: &mut [u8],
+) -> io::Result<()> {
     let answer = rc4::apply(key, text, lent);
-    tell(answer, &[], lent);
+    tell(writer, answer, &[], lent)
 }
 
 // Whether a state is the one without a key, and whether its box is a permutation, which have no number.
-fn tell_tests(s: Rc4) {
+fn tell_tests<W: Write>(writer: &mut W, s: Rc4) -> io::Result<()> {
     let unkeyed = s.is_unkeyed();
     let permutation = s.is_permutation();
     let fields = [unkeyed as u8, permutation as u8];
-    tell(0, &fields, &[]);
+    tell(writer, 0, &fields, &[])
 }
 
 // An RC4 run within bounds, from a state that is the first input, or from the third as a key: the state after it, and the lent buffer.
-fn tell_within(n: Numbers, a: &[u8], b: &[u8], c: &[u8], lent: &mut [u8]) {
+fn tell_within<W: Write>(
+    writer: &mut W,
+    n: Numbers,
+    a: &[u8],
+    b: &[u8],
+    c: &[u8],
+    lent: &mut [u8],
+) -> io::Result<()> {
     let s = whole_state(a);
     let lowest = (n.x % 65536) as u16;
     let highest = (n.y % 65536) as u16;
     let ran = s.run_within(n.z == 1, c, lowest, highest, b, lent);
     let state = ran.state;
     let fields = state_fields(state);
-    tell(ran.answer, &fields, lent);
+    tell(writer, ran.answer, &fields, lent)
 }
 
 // A state of its box and both indices, with zeros behind a short one.

@@ -1,12 +1,15 @@
 // Prints what the CCP option of this repository reads, writes and replies: K9 to K12 of 01, every request and policy, and refusals; and its
 // Reset-Requests.
+#![tactic(auto)]
+
 mod resets;
 
 ghost use Rattle.std.specs.Prelude.{◌<◌, ◌≤◌, length};
 
 use ccp::{Choice, Reply, Strengths};
-use libc::STDOUT_FILENO;
 use mppe_keys::Mode;
+use std::io;
+use std::io::{BufWriter, Write};
 
 // Requests: each subset of H, M, S and L, in four settings of the other bits.
 const REQUESTS: usize = 64;
@@ -20,89 +23,104 @@ const LOWEST: [u8; 4] = [0, 0x01, 0x10, 0];
 // Bits of the octets above it, and of the highest.
 const OTHERS: [u8; 4] = [0, 0, 0, 0x80];
 
+// Prints them to standard output, by blocks.
+fn main(rt: HostRuntime) -> io::Result<()> {
+    let mut writer = BufWriter::new(rt.alloc(), io::writer(&rt))?;
+    print_all(&mut writer)?;
+    writer.flush()
+}
+
 // All cases, in the order of tests/ccp.c.
-fn main() {
-    marked();
-    reads();
-    writes();
-    rooms();
-    replies();
-    wrong_sizes();
-    wrong_fields();
-    resets::all();
+fn print_all<W: Write>(writer: &mut W) -> io::Result<()> {
+    marked(writer)?;
+    reads(writer)?;
+    writes(writer)?;
+    rooms(writer)?;
+    replies(writer)?;
+    wrong_sizes(writer)?;
+    wrong_fields(writer)?;
+    resets::all(writer)
 }
 
 // K9 to K12.
-fn marked() {
-    io::write_all(STDOUT_FILENO, b"K9 ");
-    show_read(b"\x12\x06\x01\x00\x00\x40");
-    marked_reply(b"K10 ", b"\x12\x06\x01\x00\x00\xe0", 15);
-    marked_reply(b"K11 ", b"\x12\x06\x00\x00\x00\x20", 7);
-    marked_reply(b"K12 ", b"\x12\x06\x01\x00\x00\x20", 4);
+fn marked<W: Write>(writer: &mut W) -> io::Result<()> {
+    writer.write_all(b"K9 ")?;
+    show_read(writer, b"\x12\x06\x01\x00\x00\x40")?;
+    marked_reply(writer, b"K10 ", b"\x12\x06\x01\x00\x00\xe0", 15)?;
+    marked_reply(writer, b"K11 ", b"\x12\x06\x00\x00\x00\x20", 7)?;
+    marked_reply(writer, b"K12 ", b"\x12\x06\x01\x00\x00\x20", 4)
 }
 
 // A reply's line behind a mark.
-fn marked_reply(mark: &[u8], option: &[u8], policy: usize) {
-    io::write_all(STDOUT_FILENO, mark);
-    show_reply(option, policy);
+fn marked_reply<W: Write>(
+    writer: &mut W,
+    mark: &[u8],
+    option: &[u8],
+    policy: usize,
+) -> io::Result<()> {
+    writer.write_all(mark)?;
+    show_reply(writer, option, policy)
 }
 
 // Every request, read.
-fn reads() {
+fn reads<W: Write>(writer: &mut W) -> io::Result<()> {
     let mut i = 0;
     while i < REQUESTS {
-        show_read(&request(i));
+        show_read(writer, &request(i))?;
         i += 1;
     }
+    Ok(())
 }
 
 // Every mode with every set of strengths, written into eight octets.
-fn writes() {
+fn writes<W: Write>(writer: &mut W) -> io::Result<()> {
     let mut i = 0;
     while i < 2 * SETS {
-        show_write(mode(i / SETS), i % SETS, &mut [0xaa; 8]);
+        show_write(writer, mode(i / SETS), i % SETS, &mut [0xaa; 8])?;
         i += 1;
     }
+    Ok(())
 }
 
 // Buffers without room, with just room and with more.
-fn rooms() {
-    show_write(Mode::Stateless, 7, &mut []);
-    show_write(Mode::Stateless, 7, &mut [0xaa; 5]);
-    show_write(Mode::Stateless, 7, &mut [0xaa; 6]);
-    show_write(Mode::Stateful, 1, &mut [0xaa; 8]);
+fn rooms<W: Write>(writer: &mut W) -> io::Result<()> {
+    show_write(writer, Mode::Stateless, 7, &mut [])?;
+    show_write(writer, Mode::Stateless, 7, &mut [0xaa; 5])?;
+    show_write(writer, Mode::Stateless, 7, &mut [0xaa; 6])?;
+    show_write(writer, Mode::Stateful, 1, &mut [0xaa; 8])
 }
 
 // Every request under every policy.
-fn replies() {
+fn replies<W: Write>(writer: &mut W) -> io::Result<()> {
     let mut i = 0;
     while i < POLICIES * REQUESTS {
-        show_reply(&request(i % REQUESTS), i / REQUESTS);
+        show_reply(writer, &request(i % REQUESTS), i / REQUESTS)?;
         i += 1;
     }
+    Ok(())
 }
 
 // Options that are not six octets.
-fn wrong_sizes() {
-    refused(b"");
-    refused(b"\x12\x06\x01\x00\x00");
-    refused(b"\x12\x06\x01\x00\x00\x40\x00");
-    refused(b"\x12\x07\x01\x00\x00\x40\x00");
+fn wrong_sizes<W: Write>(writer: &mut W) -> io::Result<()> {
+    refused(writer, b"")?;
+    refused(writer, b"\x12\x06\x01\x00\x00")?;
+    refused(writer, b"\x12\x06\x01\x00\x00\x40\x00")?;
+    refused(writer, b"\x12\x07\x01\x00\x00\x40\x00")
 }
 
 // Options of six octets with another type or length.
-fn wrong_fields() {
-    refused(b"\x11\x06\x01\x00\x00\x40");
-    refused(b"\x12\x05\x01\x00\x00\x40");
-    refused(b"\x12\x07\x01\x00\x00\x40");
+fn wrong_fields<W: Write>(writer: &mut W) -> io::Result<()> {
+    refused(writer, b"\x11\x06\x01\x00\x00\x40")?;
+    refused(writer, b"\x12\x05\x01\x00\x00\x40")?;
+    refused(writer, b"\x12\x07\x01\x00\x00\x40")
 }
 
 // An option read, and replied to with all strengths allowed, with none, and with stateful mode besides: 1 comes before 8.
-fn refused(option: &[u8]) {
-    show_read(option);
-    show_reply(option, 7);
-    show_reply(option, 0);
-    show_reply(option, 15);
+fn refused<W: Write>(writer: &mut W, option: &[u8]) -> io::Result<()> {
+    show_read(writer, option)?;
+    show_reply(writer, option, 7)?;
+    show_reply(writer, option, 0)?;
+    show_reply(writer, option, 15)
 }
 
 // Request i.
@@ -151,45 +169,63 @@ fn mode(i: usize) -> Mode {
 }
 
 // The line of an option read: mode, set of strengths, number, option.
-fn show_read(option: &[u8]) {
+fn show_read<W: Write>(writer: &mut W, option: &[u8]) -> io::Result<()> {
     let offer = ccp::read(option);
     let mode = offer.mode;
     let strengths = offer.strengths;
-    show_mode(mode, set_of(strengths), offer.answer, option);
+    show_mode(writer, mode, set_of(strengths), offer.answer, option)
 }
 
 // The line of an option written: set of strengths, number, the buffer afterwards.
-fn show_write(mode: Mode, set: usize, out: &mut [u8]) {
+fn show_write<W: Write>(writer: &mut W, mode: Mode, set: usize, out: &mut [u8]) -> io::Result<()> {
     let answer = ccp::write(mode, strengths(set), out);
-    report::numbered(b"written", set, answer, out);
+    report::numbered(writer, b"written", set, answer, out)
 }
 
 // The line of a reply: its kind and mode, the policy, its number, the request in eight octets, the reply's option.
-fn show_reply(option: &[u8], policy: usize) {
+fn show_reply<W: Write>(writer: &mut W, option: &[u8], policy: usize) -> io::Result<()> {
     let mut shown = [0u8; 14];
     octets::copy(option, &mut shown);
     match ccp::reply_to(option, strengths(policy), SETS <= policy) {
-        Reply::Accept(choice) => show_choice(b"accept ", policy, choice, &mut shown),
-        Reply::CounterOffer(choice) => show_choice(b"counter-offer ", policy, choice, &mut shown),
-        Reply::Refused(number) => report::numbered(b"refused", policy, number, &shown),
+        Reply::Accept(choice) => show_choice(writer, b"accept ", policy, choice, &mut shown),
+        Reply::CounterOffer(choice) => show_choice(
+            writer,
+            b"counter-offer ",
+            policy,
+            choice,
+            &mut shown,
+        ),
+        Reply::Refused(number) => report::numbered(writer, b"refused", policy, number, &shown),
     }
 }
 
 // The line of an accept or a counter-offer.
-fn show_choice(kind: &[u8], policy: usize, choice: Choice, shown: &mut [u8])
+fn show_choice<W: Write>(
+    writer: &mut W,
+    kind: &[u8],
+    policy: usize,
+    choice: Choice,
+    shown: &mut [u8],
+) -> io::Result<()>
     requires { 8 ≤ length shown.old }
 {
     let mode = choice.mode;
     let strength = choice.strength;
     let answer = ccp::write(mode, ccp::only(strength), &mut shown[8..]);
-    io::write_all(STDOUT_FILENO, kind);
-    show_mode(mode, policy, answer, shown);
+    writer.write_all(kind)?;
+    show_mode(writer, mode, policy, answer, shown)
 }
 
 // A line behind a mode, with a number.
-fn show_mode(mode: Mode, n: usize, answer: u8, octets: &[u8]) {
+fn show_mode<W: Write>(
+    writer: &mut W,
+    mode: Mode,
+    n: usize,
+    answer: u8,
+    octets: &[u8],
+) -> io::Result<()> {
     match mode {
-        Mode::Stateless => report::numbered(b"stateless", n, answer, octets),
-        Mode::Stateful => report::numbered(b"stateful", n, answer, octets),
+        Mode::Stateless => report::numbered(writer, b"stateless", n, answer, octets),
+        Mode::Stateful => report::numbered(writer, b"stateful", n, answer, octets),
     }
 }

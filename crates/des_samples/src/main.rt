@@ -1,5 +1,10 @@
 // Prints what the DES of this repository answers to the known-answer tests of NIST SP 800-17, to RFC 2759's samples and to wrong lengths.
+#![tactic(auto)]
+
 ghost use Rattle.std.specs.Prelude.{◌<◌};
+
+use std::io;
+use std::io::{BufWriter, Write};
 
 // Octets of a key and a block, side by side.
 const CASE_OCTETS: usize = 15;
@@ -68,34 +73,43 @@ const NT_RESPONSE: [u8; 45] = *b"\x44\xeb\xba\x8d\x53\x12\xb8\xd0\x2e\x43\x86\xb
 const RAW_KEYS: [u8; 30] = *b"\xfc\x15\x6a\xf7\xed\xcd\x6c\xd0\x2e\x43\x86\xbc\xe9\x12\x26\
     \x0e\xdd\xe3\x33\x7d\x42\x7f\xd0\x2e\x43\x86\xbc\xe9\x12\x26";
 
+// Prints them to standard output, by blocks.
+fn main(rt: HostRuntime) -> io::Result<()> {
+    let mut writer = BufWriter::new(rt.alloc(), io::writer(&rt))?;
+    print_all(&mut writer)?;
+    writer.flush()
+}
+
 // Every set, one after the other.
-fn main() {
-    one_bit_blocks();
-    one_bit_keys();
-    cases(b"permutation", &PERMUTATION);
-    cases(b"substitution", &SUBSTITUTION);
-    cases(b"nt-response", &NT_RESPONSE);
-    cases(b"raw-key", &RAW_KEYS);
-    refusals();
+fn print_all<W: Write>(writer: &mut W) -> io::Result<()> {
+    one_bit_blocks(writer)?;
+    one_bit_keys(writer)?;
+    cases(writer, b"permutation", &PERMUTATION)?;
+    cases(writer, b"substitution", &SUBSTITUTION)?;
+    cases(writer, b"nt-response", &NT_RESPONSE)?;
+    cases(writer, b"raw-key", &RAW_KEYS)?;
+    refusals(writer)
 }
 
 // SP 800-17, variable plaintext: each block with one bit set, under the zero key.
-fn one_bit_blocks() {
+fn one_bit_blocks<W: Write>(writer: &mut W) -> io::Result<()> {
     let mut i = 0;
     while i < 64 {
-        answer(b"one-bit-block", &[0; 7], &one_bit(i));
+        answer(writer, b"one-bit-block", &[0; 7], &one_bit(i))?;
         i += 1;
     }
+    Ok(())
 }
 
 // SP 800-17, variable key: the zero block under each key with one bit set.
-fn one_bit_keys() {
+fn one_bit_keys<W: Write>(writer: &mut W) -> io::Result<()> {
     let mut i = 0;
     while i < 56 {
         let key = one_bit(i);
-        answer(b"one-bit-key", &key[..7], &[0; 8]);
+        answer(writer, b"one-bit-key", &key[..7], &[0; 8])?;
         i += 1;
     }
+    Ok(())
 }
 
 // Eight octets with bit i set, counted from the left.
@@ -108,31 +122,32 @@ fn one_bit(i: usize) -> [u8; 8]
 }
 
 // Each key and block of a table.
-fn cases(label: &[u8], table: &[u8]) {
+fn cases<W: Write>(writer: &mut W, label: &[u8], table: &[u8]) -> io::Result<()> {
     let mut i = 0;
     while i < table.len() / CASE_OCTETS {
         let at = CASE_OCTETS * i;
         let end = at + CASE_OCTETS;
         let middle = at + 7;
-        answer(label, &table[at..middle], &table[middle..end]);
+        answer(writer, label, &table[at..middle], &table[middle..end])?;
         i += 1;
     }
+    Ok(())
 }
 
 // Keys and blocks of wrong lengths.
-fn refusals() {
-    answer(b"key-of-0", b"", &[0; 8]);
-    answer(b"key-of-6", &[0; 6], &[0; 8]);
-    answer(b"key-of-8", &[0; 8], &[0; 8]);
-    answer(b"block-of-0", &[0; 7], b"");
-    answer(b"block-of-7", &[0; 7], &[0; 7]);
-    answer(b"block-of-9", &[0; 7], &[0; 9]);
-    answer(b"both", &[0; 8], &[0; 7]);
+fn refusals<W: Write>(writer: &mut W) -> io::Result<()> {
+    answer(writer, b"key-of-0", b"", &[0; 8])?;
+    answer(writer, b"key-of-6", &[0; 6], &[0; 8])?;
+    answer(writer, b"key-of-8", &[0; 8], &[0; 8])?;
+    answer(writer, b"block-of-0", &[0; 7], b"")?;
+    answer(writer, b"block-of-7", &[0; 7], &[0; 7])?;
+    answer(writer, b"block-of-9", &[0; 7], &[0; 9])?;
+    answer(writer, b"both", &[0; 8], &[0; 7])
 }
 
 // What a key and a block are answered.
-fn answer(label: &[u8], key: &[u8], block: &[u8]) {
+fn answer<W: Write>(writer: &mut W, label: &[u8], key: &[u8], block: &[u8]) -> io::Result<()> {
     let r = des::encrypt(key, block);
     let octets = r.octets;
-    report::line(label, r.answer, &octets);
+    report::line(writer, label, r.answer, &octets)
 }

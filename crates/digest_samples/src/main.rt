@@ -1,74 +1,98 @@
 // The published samples of MD4, SHA-1, SHA-256 and HMAC, every length about one and two blocks, and the edges of the limit.
+#![tactic(auto)]
+
 use report::{line, numbered};
+use std::io;
+use std::io::{BufWriter, Write};
 
 // A text that no digest takes: one octet beyond the limit.
 const TOO_LONG: usize = 65536;
 
+// Prints them to standard output, by blocks.
+fn main(rt: HostRuntime) -> io::Result<()> {
+    let mut writer = BufWriter::new(rt.alloc(), io::writer(&rt))?;
+    print_all(&mut writer)?;
+    writer.flush()
+}
+
 // Every sample, one after the other.
-fn main() {
-    rfc1320(b"");
-    rfc1320(b"a");
-    rfc1320(b"abc");
-    rfc1320(b"message digest");
-    rfc1320(b"abcdefghijklmnopqrstuvwxyz");
-    rfc1320(b"ABCDEFGHIJKLMNOPQRSTUVWXYZabcdefghijklmnopqrstuvwxyz0123456789");
-    rfc1320(b"12345678901234567890123456789012345678901234567890123456789012345678901234567890");
-    fips180(b"");
-    fips180(b"abc");
-    fips180(b"abcdbcdecdefdefgefghfghighijhijkijkljklmklmnlmnomnopnopq");
+fn print_all<W: Write>(writer: &mut W) -> io::Result<()> {
+    rfc1320(writer, b"")?;
+    rfc1320(writer, b"a")?;
+    rfc1320(writer, b"abc")?;
+    rfc1320(writer, b"message digest")?;
+    rfc1320(writer, b"abcdefghijklmnopqrstuvwxyz")?;
+    rfc1320(
+        writer,
+        b"ABCDEFGHIJKLMNOPQRSTUVWXYZabcdefghijklmnopqrstuvwxyz0123456789",
+    )?;
+    rfc1320(
+        writer,
+        b"12345678901234567890123456789012345678901234567890123456789012345678901234567890",
+    )?;
+    fips180(writer, b"")?;
+    fips180(writer, b"abc")?;
     fips180(
+        writer,
+        b"abcdbcdecdefdefgefghfghighijhijkijkljklmklmnlmnomnopnopq",
+    )?;
+    fips180(
+        writer,
         b"abcdefghbcdefghicdefghijdefghijkefghijklfghijklmghijklmnhijklmnoijklmnopjklmnopqklmnopqrlmnopqrsmnopqrstnopqrstu",
-    );
-    rfc4231(&[0x0bu8; 20], b"Hi There");
-    rfc4231(b"Jefe", b"what do ya want for nothing?");
-    rfc4231(&[0xaau8; 20], &[0xddu8; 50]);
+    )?;
+    rfc4231(writer, &[0x0bu8; 20], b"Hi There")?;
+    rfc4231(writer, b"Jefe", b"what do ya want for nothing?")?;
+    rfc4231(writer, &[0xaau8; 20], &[0xddu8; 50])?;
     rfc4231(
+        writer,
         b"\x01\x02\x03\x04\x05\x06\x07\x08\x09\x0a\x0b\x0c\x0d\x0e\x0f\x10\x11\x12\x13\x14\x15\x16\x17\x18\x19",
         &[0xcdu8; 50],
-    );
-    rfc4231(&[0x0cu8; 20], b"Test With Truncation");
+    )?;
+    rfc4231(writer, &[0x0cu8; 20], b"Test With Truncation")?;
     rfc4231(
+        writer,
         &[0xaau8; 131],
         b"Test Using Larger Than Block-Size Key - Hash Key First",
-    );
+    )?;
     rfc4231(
+        writer,
         &[0xaau8; 131],
         b"This is a test using a larger than block-size key and a larger than block-size data. The key needs to be hashed before being used by the HMAC algorithm.",
-    );
-    lengths();
+    )?;
+    lengths(writer)
 }
 
 // A text of RFC 1320's test suite (A.5).
-fn rfc1320(text: &[u8]) {
+fn rfc1320<W: Write>(writer: &mut W, text: &[u8]) -> io::Result<()> {
     let d = md4::md4(text);
-    line(b"rfc1320 md4", d.answer, &d.octets);
+    line(writer, b"rfc1320 md4", d.answer, &d.octets)
 }
 
 // A text of the examples of FIPS 180.
-fn fips180(text: &[u8]) {
-    let d = sha1::sha1(text);
-    line(b"fips180 sha1", d.answer, &d.octets);
+fn fips180<W: Write>(writer: &mut W, text: &[u8]) -> io::Result<()> {
+    let d = sha_1::sha1(text);
+    line(writer, b"fips180 sha1", d.answer, &d.octets)?;
     let e = sha256::sha256(text);
-    line(b"fips180 sha256", e.answer, &e.octets);
+    line(writer, b"fips180 sha256", e.answer, &e.octets)
 }
 
 // A test case of RFC 4231.
-fn rfc4231(key: &[u8], text: &[u8]) {
+fn rfc4231<W: Write>(writer: &mut W, key: &[u8], text: &[u8]) -> io::Result<()> {
     let d = sha256::hmac_sha256(key, text);
-    line(b"rfc4231 hmac-sha256", d.answer, &d.octets);
+    line(writer, b"rfc4231 hmac-sha256", d.answer, &d.octets)
 }
 
 // Texts of 0 to 130 octets, the longest one, and one that is too long.
-fn lengths() {
+fn lengths<W: Write>(writer: &mut W) -> io::Result<()> {
     let mut text = [0u8; TOO_LONG];
     fill(&mut text);
     let mut n = 0;
     while n <= 130 {
-        each(&text, n);
+        each(writer, &text, n)?;
         n += 1;
     }
-    each(&text, TOO_LONG - 1);
-    each(&text, TOO_LONG);
+    each(writer, &text, TOO_LONG - 1)?;
+    each(writer, &text, TOO_LONG)
 }
 
 // Octets that repeat only after 256 * 251 places.
@@ -81,19 +105,19 @@ fn fill(text: &mut [u8]) {
 }
 
 // Every digest of the first n octets, and HMAC with them as key and as text.
-fn each(text: &[u8], n: usize) {
+fn each<W: Write>(writer: &mut W, text: &[u8], n: usize) -> io::Result<()> {
     if text.len() < n {
-        return;
+        return Ok(());
     }
     let part = &text[..n];
     let a = md4::md4(part);
-    numbered(b"md4", n, a.answer, &a.octets);
-    let b = sha1::sha1(part);
-    numbered(b"sha1", n, b.answer, &b.octets);
+    numbered(writer, b"md4", n, a.answer, &a.octets)?;
+    let b = sha_1::sha1(part);
+    numbered(writer, b"sha1", n, b.answer, &b.octets)?;
     let c = sha256::sha256(part);
-    numbered(b"sha256", n, c.answer, &c.octets);
+    numbered(writer, b"sha256", n, c.answer, &c.octets)?;
     let d = sha256::hmac_sha256(b"key", part);
-    numbered(b"hmac-sha256 of text", n, d.answer, &d.octets);
+    numbered(writer, b"hmac-sha256 of text", n, d.answer, &d.octets)?;
     let e = sha256::hmac_sha256(part, b"text");
-    numbered(b"hmac-sha256 under key", n, e.answer, &e.octets);
+    numbered(writer, b"hmac-sha256 under key", n, e.answer, &e.octets)
 }

@@ -8,6 +8,8 @@ use crate::{
 use mppe::{FRONT, Link};
 use mppe_keys::{Mode, Strength};
 use mppe_record::record_octets;
+use std::io;
+use std::io::Write;
 
 // Where a record's mode stands, and its mark; RC4's indices are behind it.
 const MODE_AT: usize = 35;
@@ -15,7 +17,7 @@ const MODE_AT: usize = 35;
 const MARK_AT: usize = 36;
 
 // What a case of a number is about.
-#[derive(Drop)]
+#[derive(Clone, Copy)]
 enum Kind {
     NewLink,
     Octets,
@@ -31,52 +33,58 @@ enum Kind {
 }
 
 // Every fixed case at one strength and in one mode.
-pub fn all(strength: Strength, mode: Mode) {
-    headed(strength, mode);
-    read_and_made(steady(strength, mode));
-    measured(strength, fresh(strength, mode));
-    refusals(steady(strength, mode));
+pub fn all<W: Write>(writer: &mut W, strength: Strength, mode: Mode) -> io::Result<()> {
+    headed(writer, strength, mode)?;
+    read_and_made(writer, steady(strength, mode))?;
+    measured(writer, strength, fresh(strength, mode))?;
+    refusals(writer, steady(strength, mode))
 }
 
 // A stateful link's first packet, under the initial session key: behind the protocol number it is the sample's message.
-pub fn first_packet(link: Link) {
+pub fn first_packet<W: Write>(writer: &mut W, link: Link) -> io::Result<()> {
     let mut wire = [0u8; 16];
     let made = link.seal(b"\x00\x21st message", &mut wire);
-    show(b"first packet", 0, made, &wire);
+    show(writer, b"first packet", 0, made, &wire)
 }
 
 // The sets of rows in which a stateful link is waiting.
-pub fn waiting_rows(strength: Strength) {
-    each(steady(strength, Mode::Stateful), Kind::Rows, 128, 224);
+pub fn waiting_rows<W: Write>(writer: &mut W, strength: Strength) -> io::Result<()> {
+    each(
+        writer,
+        steady(strength, Mode::Stateful),
+        Kind::Rows,
+        128,
+        224,
+    )
 }
 
 // Links made, and records read.
-fn read_and_made(link: Link) {
-    each(link, Kind::NewLink, 0, 18);
-    each(link, Kind::Octets, 35, 36);
-    each(link, Kind::Octets, 293, 298);
-    each(link, Kind::Bits, 38, 59);
-    each(link, Kind::Bits, 126, 131);
-    each(link, Kind::Marks, 0, 16);
+fn read_and_made<W: Write>(writer: &mut W, link: Link) -> io::Result<()> {
+    each(writer, link, Kind::NewLink, 0, 18)?;
+    each(writer, link, Kind::Octets, 35, 36)?;
+    each(writer, link, Kind::Octets, 293, 298)?;
+    each(writer, link, Kind::Bits, 38, 59)?;
+    each(writer, link, Kind::Bits, 126, 131)?;
+    each(writer, link, Kind::Marks, 0, 16)
 }
 
 // What a new link opens: RFC 3079's message, and packets of counts near and far.
-fn measured(strength: Strength, first: Link) {
-    show_sample(first, strength);
-    distances(first);
-    arrivals(first);
+fn measured<W: Write>(writer: &mut W, strength: Strength, first: Link) -> io::Result<()> {
+    show_sample(writer, first, strength)?;
+    distances(writer, first)?;
+    arrivals(writer, first)
 }
 
 // Every way to be refused, from a link whose next packet has count 0.
-fn refusals(link: Link) {
-    each(link, Kind::Rows, 0, 96);
-    each(link, Kind::Record, 0, 42);
-    each(link, Kind::Room, 4, 25);
-    each(link, Kind::Length, 4, 13);
-    each(link, Kind::Length, 1500, 1506);
-    each(link, Kind::Flags, 0, 16);
-    each(link, Kind::Protocol, 0, 11);
-    each(link, Kind::Reset, 0, 22);
+fn refusals<W: Write>(writer: &mut W, link: Link) -> io::Result<()> {
+    each(writer, link, Kind::Rows, 0, 96)?;
+    each(writer, link, Kind::Record, 0, 42)?;
+    each(writer, link, Kind::Room, 4, 25)?;
+    each(writer, link, Kind::Length, 4, 13)?;
+    each(writer, link, Kind::Length, 1500, 1506)?;
+    each(writer, link, Kind::Flags, 0, 16)?;
+    each(writer, link, Kind::Protocol, 0, 11)?;
+    each(writer, link, Kind::Reset, 0, 22)
 }
 
 // The link of most cases, whose next packet has count 0: a new one, or a stateful one that has sealed a packet and is not waiting.
@@ -95,23 +103,36 @@ fn begun(first: Link) -> Link {
 }
 
 // The cases of a kind in a range of numbers.
-fn each(link: Link, kind: Kind, from: usize, to: usize) {
-    report::numbered(b"cases from", from, 0, b"");
+fn each<W: Write>(
+    writer: &mut W,
+    link: Link,
+    kind: Kind,
+    from: usize,
+    to: usize,
+) -> io::Result<()> {
+    report::numbered(writer, b"cases from", from, 0, b"")?;
     for n in from..to {
-        case(link, kind, n);
+        case(writer, link, kind, n)?;
     }
+    Ok(())
 }
 
 // One case with a link.
-fn case(link: Link, kind: Kind, n: usize) {
+fn case<W: Write>(writer: &mut W, link: Link, kind: Kind, n: usize) -> io::Result<()> {
     match kind {
-        Kind::NewLink => show_new(link, n),
-        Kind::Octets => show_read(n, record_octets(link), n),
-        Kind::Bits => show_read(n, with_bits(record_octets(link), n), 295),
-        Kind::Marks => show_read(n, with_marks(record_octets(link), n), 295),
-        Kind::Record => all_calls(n, link, altered(link, n)),
-        Kind::Reset => show_request(n, counted_if(11 <= n, link)),
-        _ => both(n, link, record_of(link, kind, n), trial_of(link, kind, n)),
+        Kind::NewLink => show_new(writer, link, n),
+        Kind::Octets => show_read(writer, n, record_octets(link), n),
+        Kind::Bits => show_read(writer, n, with_bits(record_octets(link), n), 295),
+        Kind::Marks => show_read(writer, n, with_marks(record_octets(link), n), 295),
+        Kind::Record => all_calls(writer, n, link, altered(link, n)),
+        Kind::Reset => show_request(writer, n, counted_if(11 <= n, link)),
+        _ => both(
+            writer,
+            n,
+            link,
+            record_of(link, kind, n),
+            trial_of(link, kind, n),
+        ),
     }
 }
 
@@ -145,11 +166,11 @@ fn flags_of(mode: Mode) -> u8 {
 }
 
 // A new link of a start key of n octets.
-fn show_new(link: Link, n: usize) {
+fn show_new<W: Write>(writer: &mut W, link: Link, n: usize) -> io::Result<()> {
     let strength = link.strength;
     let mode = link.mode;
     let made = new_link(strength, mode, n);
-    show_whole(b"link", n, made.answer, made.link);
+    show_whole(writer, b"link", n, made.answer, made.link)
 }
 
 // A record's octets with another number of bits.
@@ -173,41 +194,61 @@ fn mark(i: usize) -> u8 {
 }
 
 // What is read of the first octets of a record, and zeros behind it.
-fn show_read(n: usize, octets: [u8; 295], given: usize) {
+fn show_read<W: Write>(
+    writer: &mut W,
+    n: usize,
+    octets: [u8; 295],
+    given: usize,
+) -> io::Result<()> {
     let mut lent = [0u8; 300];
     octets::copy(&octets, &mut lent);
     let end = least(given, 300);
     let read = mppe_record::read_record(&lent[0..end]);
-    show_whole(b"read", n, read.answer, read.link);
+    show_whole(writer, b"read", n, read.answer, read.link)
 }
 
 // Every call with one record, each of them a good one with the link.
-fn all_calls(n: usize, first: Link, link: Link) {
-    both(n, first, link, lent(18, 18));
-    show_reset(n, link, b"\x0e\x07\x00\x04");
+fn all_calls<W: Write>(writer: &mut W, n: usize, first: Link, link: Link) -> io::Result<()> {
+    both(writer, n, first, link, lent(18, 18))?;
+    show_reset(writer, n, link, b"\x0e\x07\x00\x04")?;
+    Ok(())
 }
 
 // A Reset-Request with an octet altered, or of 0 to 6 octets.
-fn show_request(n: usize, link: Link) {
+fn show_request<W: Write>(writer: &mut W, n: usize, link: Link) -> io::Result<()> {
     let mut request = [14, 7, 0, 4, 0, 0];
     let case = n % 11;
     if case < 4 {
         request[case] = request[case] ^ 1;
-        show_part(n, link, request, 4);
+        show_part(writer, n, link, request, 4)?;
     } else {
-        show_part(n, link, request, case - 4);
+        show_part(writer, n, link, request, case - 4)?;
     }
+    Ok(())
 }
 
 // A Reset-Request of the first octets of some.
-fn show_part(n: usize, link: Link, octets: [u8; 6], given: usize)
+fn show_part<W: Write>(
+    writer: &mut W,
+    n: usize,
+    link: Link,
+    octets: [u8; 6],
+    given: usize,
+) -> io::Result<()>
     requires { given ≤ 6 }
 {
-    show_reset(n, link, &octets[0..given]);
+    show_reset(writer, n, link, &octets[0..given])?;
+    Ok(())
 }
 
 // A plain packet sealed, and the next packet of a link opened, both with one record and as one trial says.
-fn both(n: usize, first: Link, link: Link, trial: Trial) {
+fn both<W: Write>(
+    writer: &mut W,
+    n: usize,
+    first: Link,
+    link: Link,
+    trial: Trial,
+) -> io::Result<()> {
     let given = trial.given;
     let room = trial.room;
     let mask = trial.mask;
@@ -215,15 +256,24 @@ fn both(n: usize, first: Link, link: Link, trial: Trial) {
         if 4 <= room {
             let plain = message();
             show_seal(
+                writer,
                 n,
                 link,
                 struck(plain, [mask[4], mask[5], 0, 0, 0, 0]),
                 given - 4,
                 room,
-            );
-            show_open(n, link, struck(sealed(first, plain), mask), given, room - 4);
+            )?;
+            show_open(
+                writer,
+                n,
+                link,
+                struck(sealed(first, plain), mask),
+                given,
+                room - 4,
+            )?;
         }
     }
+    Ok(())
 }
 
 // The message of RFC 3079, 3.5, behind a protocol number, and zeros.
@@ -241,17 +291,31 @@ fn sealed(link: Link, plain: [u8; LENT]) -> [u8; LENT] {
 }
 
 // Seals, and prints what it gave.
-fn show_seal(n: usize, link: Link, plain: [u8; LENT], given: usize, room: usize) {
+fn show_seal<W: Write>(
+    writer: &mut W,
+    n: usize,
+    link: Link,
+    plain: [u8; LENT],
+    given: usize,
+    room: usize,
+) -> io::Result<()> {
     let mut out = [0xEEu8; LENT];
     let made = seal_within(link, &plain, given, &mut out, room);
-    show_digest(b"seal", n, made, &out);
+    show_digest(writer, b"seal", n, made, &out)
 }
 
 // Opens, and prints what it gave.
-fn show_open(n: usize, link: Link, packet: [u8; LENT], given: usize, room: usize) {
+fn show_open<W: Write>(
+    writer: &mut W,
+    n: usize,
+    link: Link,
+    packet: [u8; LENT],
+    given: usize,
+    room: usize,
+) -> io::Result<()> {
     let mut out = [0xEEu8; LENT];
     let made = open_within(link, &packet, given, &mut out, room);
-    show_digest(b"open", n, made, &out);
+    show_digest(writer, b"open", n, made, &out)
 }
 
 // Nothing turned over.
@@ -381,45 +445,58 @@ fn with_cells(link: Link, exchanged: bool) -> Link {
 }
 
 // The distances of K1 to K5, and those at the limits of what is opened, from counts about the wrap.
-fn distances(first: Link) {
-    ahead(first, 4095, 1);
-    ahead(first, 2, 3);
-    ahead(first, 4094, 3);
-    ahead(first, 0, 4095);
-    ahead(first, 7, 4096);
-    at_limits(first, 0);
-    at_limits(first, 255);
-    at_limits(first, 2047);
-    at_limits(first, 2048);
-    at_limits(first, 4094);
-    at_limits(first, 4095);
+fn distances<W: Write>(writer: &mut W, first: Link) -> io::Result<()> {
+    ahead(writer, first, 4095, 1)?;
+    ahead(writer, first, 2, 3)?;
+    ahead(writer, first, 4094, 3)?;
+    ahead(writer, first, 0, 4095)?;
+    ahead(writer, first, 7, 4096)?;
+    at_limits(writer, first, 0)?;
+    at_limits(writer, first, 255)?;
+    at_limits(writer, first, 2047)?;
+    at_limits(writer, first, 2048)?;
+    at_limits(writer, first, 4094)?;
+    at_limits(writer, first, 4095)
 }
 
 // The distances at the limits of what is opened.
-fn at_limits(first: Link, last: u16) {
-    ahead(first, last, 1);
-    ahead(first, last, 2047);
-    ahead(first, last, 2048);
-    ahead(first, last, 2049);
-    ahead(first, last, 4095);
+fn at_limits<W: Write>(writer: &mut W, first: Link, last: u16) -> io::Result<()> {
+    ahead(writer, first, last, 1)?;
+    ahead(writer, first, last, 2047)?;
+    ahead(writer, first, last, 2048)?;
+    ahead(writer, first, last, 2049)?;
+    ahead(writer, first, last, 4095)
 }
 
 // Packets sealed from a count made by hand, and the last of them opened by a link with that count.
-fn ahead(first: Link, last: u16, packets: usize) {
+fn ahead<W: Write>(writer: &mut W, first: Link, last: u16, packets: usize) -> io::Result<()> {
     let link = counted(first, last);
     let sent = last_packet(link, packets);
     let wire = sent.wire;
-    report::numbered(b"last count", last as usize, 0, &wire);
-    open_each(link, packets, wire);
+    report::numbered(writer, b"last count", last as usize, 0, &wire)?;
+    open_each(writer, link, packets, wire)
 }
 
 // A packet opened as it is and with another protocol number inside, each with room and without.
-fn open_each(link: Link, packets: usize, wire: [u8; 18]) {
-    show_opened(b"opened after packets", packets, link, &wire, 14);
-    show_opened(b"without room", packets, link, &wire, 13);
+fn open_each<W: Write>(
+    writer: &mut W,
+    link: Link,
+    packets: usize,
+    wire: [u8; 18],
+) -> io::Result<()> {
+    show_opened(writer, b"opened after packets", packets, link, &wire, 14)?;
+    show_opened(writer, b"without room", packets, link, &wire, 13)?;
     let other = other_protocol(wire);
-    show_opened(b"with another protocol number", packets, link, &other, 14);
-    show_opened(b"with neither", packets, link, &other, 13);
+    show_opened(
+        writer,
+        b"with another protocol number",
+        packets,
+        link,
+        &other,
+        14,
+    )?;
+    show_opened(writer, b"with neither", packets, link, &other, 13)?;
+    Ok(())
 }
 
 // A packet with another protocol number inside.
@@ -431,37 +508,48 @@ fn other_protocol(wire: [u8; 18]) -> [u8; 18] {
 
 // Packets of a new link, as they arrive on a line that loses 2,047 in a row from the start and again across the wrap, and brings some
 // behind others: the last one opened is then one, two, and 2,047 ahead.
-fn arrivals(first: Link) {
-    let lossy = arrival(first, first, 2047);
-    let ahead = arrival(first, lossy, 2049);
-    let late = arrival(first, ahead, 2048);
-    let again = arrival(first, late, 2049);
-    let later = arrival(first, again, 2047);
-    let wrapped = arrival(first, later, 4097);
-    let latest = arrival(first, wrapped, 2050);
-    let before = arrival(first, latest, 4096);
-    arrival(first, before, 4098);
+fn arrivals<W: Write>(writer: &mut W, first: Link) -> io::Result<()> {
+    let lossy = arrival(writer, first, first, 2047)?;
+    let ahead = arrival(writer, first, lossy, 2049)?;
+    let late = arrival(writer, first, ahead, 2048)?;
+    let again = arrival(writer, first, late, 2049)?;
+    let later = arrival(writer, first, again, 2047)?;
+    let wrapped = arrival(writer, first, later, 4097)?;
+    let latest = arrival(writer, first, wrapped, 2050)?;
+    let before = arrival(writer, first, latest, 4096)?;
+    arrival(writer, first, before, 4098)?;
+    Ok(())
 }
 
 // A packet of a link opened by a receiver, and the receiver's record behind it.
-fn arrival(first: Link, receiver: Link, number: u16) -> Link {
+fn arrival<W: Write>(writer: &mut W, first: Link, receiver: Link, number: u16) -> io::Result<Link> {
     let packet = number as usize;
     let sent = last_packet(first, packet + 1);
-    show_opened(b"arrival of packet", packet, receiver, &sent.wire, 14)
+    show_opened(
+        writer,
+        b"arrival of packet",
+        packet,
+        receiver,
+        &sent.wire,
+        14,
+    )
 }
 
 // The sample's encrypted message behind a header of count 0, opened.
-fn show_sample(link: Link, strength: Strength) {
+fn show_sample<W: Write>(writer: &mut W, link: Link, strength: Strength) -> io::Result<()> {
     match strength {
         Strength::Bits40 => open_sample(
+            writer,
             link,
             b"\x00\xfd\x90\x00\x92\x91\x37\x91\x7e\x58\x03\xd6\x68\xd7\x58\x98",
         ),
         Strength::Bits56 => open_sample(
+            writer,
             link,
             b"\x00\xfd\x90\x00\x3f\x10\x68\x33\xfa\x44\x8d\xa8\x42\xbc\x57\xb8",
         ),
         Strength::Bits128 => open_sample(
+            writer,
             link,
             b"\x00\xfd\x90\x00\x81\x84\x83\x17\xdf\x68\x84\x62\x72\xfb\x5a\xbe",
         ),
@@ -469,12 +557,14 @@ fn show_sample(link: Link, strength: Strength) {
 }
 
 // Opens a packet under the initial session key, which no stateless packet has.
-fn open_sample(link: Link, packet: &[u8]) {
+fn open_sample<W: Write>(writer: &mut W, link: Link, packet: &[u8]) -> io::Result<()> {
     show_opened(
+        writer,
         b"message under the initial session key",
         0,
         link,
         packet,
         14,
-    );
+    )?;
+    Ok(())
 }

@@ -4,27 +4,30 @@ ghost use Rattle.std.specs.Prelude.{◌≤◌};
 use crate::shown::show_digest;
 use crate::{open_within, seal_within};
 use mppe::{FRONT, Link, Outcome};
+use std::io;
+use std::io::Write;
 
 // The octets of a buffer, more than any packet has.
 const LENT: usize = 32100;
 
 // Both ends of a link.
-#[derive(Drop)]
+#[derive(Clone, Copy)]
 struct Ends {
     sender: Link,
     receiver: Link,
 }
 
 // Plain packets of an information field of 1,500 octets and beyond it, on both sides of 16,384 octets sealed, at the limit and beyond it.
-pub fn all(first: Link) {
-    report::numbered(b"cases from", 1498, 0, b"");
+pub fn all<W: Write>(writer: &mut W, first: Link) -> io::Result<()> {
+    report::numbered(writer, b"cases from", 1498, 0, b"")?;
     let mut ends = both(first, first);
-    ends = pass(ends, 1498);
-    ends = pass(ends, 1499);
-    ends = pass(ends, 16379);
-    ends = pass(ends, 16380);
-    ends = pass(ends, 31998);
-    pass(ends, 31999);
+    ends = pass(writer, ends, 1498)?;
+    ends = pass(writer, ends, 1499)?;
+    ends = pass(writer, ends, 16379)?;
+    ends = pass(writer, ends, 16380)?;
+    ends = pass(writer, ends, 31998)?;
+    pass(writer, ends, 31999)?;
+    Ok(())
 }
 
 // The ends with their records.
@@ -33,18 +36,18 @@ fn both(sender: Link, receiver: Link) -> Ends {
 }
 
 // A plain packet of n octets, sealed and opened.
-fn pass(ends: Ends, n: usize) -> Ends
+fn pass<W: Write>(writer: &mut W, ends: Ends, n: usize) -> io::Result<Ends>
     requires { (7 ≤ n) × (n ≤ 31999) }
 {
     let mut wire = [0xEEu8; LENT];
     let sender = ends.sender;
     let sent = seal_filled(sender, n, &mut wire);
-    show_digest(b"long seal", n, sent, &wire);
+    show_digest(writer, b"long seal", n, sent, &wire)?;
     let mut out = [0xEEu8; LENT];
     let receiver = ends.receiver;
     let opened = open_within(receiver, &wire, FRONT + n, &mut out, LENT);
-    show_digest(b"long open", n, opened, &out);
-    both(sent.link, opened.link)
+    show_digest(writer, b"long open", n, opened, &out)?;
+    Ok(both(sent.link, opened.link))
 }
 
 // Seals the message behind a protocol number, zeros, and a mark in the last octets.

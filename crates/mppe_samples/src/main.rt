@@ -1,8 +1,12 @@
 // Links in both modes, packets sealed and opened, Reset-Requests, and every set of rows that refuse them.
+#![tactic(auto)]
+
 ghost use Rattle.std.specs.Prelude.{◌≤◌};
 
 use mppe::{Link, NewLink, Outcome};
 use mppe_keys::{Mode, Strength};
+use std::io;
+use std::io::{BufWriter, Write};
 
 mod cases;
 mod long;
@@ -13,29 +17,36 @@ mod shown;
 const LENT: usize = 1600;
 
 // How a call differs from one with a whole packet and all the room: octets lent, room, and bits of the first octets turned over.
-#[derive(Drop)]
+#[derive(Clone, Copy)]
 struct Trial {
     given: usize,
     room: usize,
     mask: [u8; 6],
 }
 
+// Prints them to standard output, by blocks.
+fn main(rt: HostRuntime) -> io::Result<()> {
+    let mut writer = BufWriter::new(rt.alloc(), io::writer(&rt))?;
+    print_all(&mut writer)?;
+    writer.flush()
+}
+
 // All cases, in the order of tests/mppe.c.
-fn main() {
-    both_modes(Strength::Bits40);
-    both_modes(Strength::Bits56);
-    both_modes(Strength::Bits128);
+fn print_all<W: Write>(writer: &mut W) -> io::Result<()> {
+    both_modes(writer, Strength::Bits40)?;
+    both_modes(writer, Strength::Bits56)?;
+    both_modes(writer, Strength::Bits128)
 }
 
 // The cases at one strength.
-fn both_modes(strength: Strength) {
-    cases::all(strength, Mode::Stateless);
-    cases::all(strength, Mode::Stateful);
-    cases::first_packet(fresh(strength, Mode::Stateful));
-    cases::waiting_rows(strength);
-    runs::all(fresh(strength, Mode::Stateful));
-    long::all(fresh(strength, Mode::Stateless));
-    long::all(fresh(strength, Mode::Stateful));
+fn both_modes<W: Write>(writer: &mut W, strength: Strength) -> io::Result<()> {
+    cases::all(writer, strength, Mode::Stateless)?;
+    cases::all(writer, strength, Mode::Stateful)?;
+    cases::first_packet(writer, fresh(strength, Mode::Stateful))?;
+    cases::waiting_rows(writer, strength)?;
+    runs::all(writer, fresh(strength, Mode::Stateful))?;
+    long::all(writer, fresh(strength, Mode::Stateless))?;
+    long::all(writer, fresh(strength, Mode::Stateful))
 }
 
 // A new link of the samples' start key.
@@ -72,7 +83,7 @@ fn counted(link: Link, count: u16) -> Link {
 }
 
 // Packets of the message of RFC 3079, 3.5, sealed one after the other: the last of them, and the sender's record after it.
-#[derive(Drop)]
+#[derive(Clone, Copy)]
 struct Sent {
     wire: [u8; 18],
     link: Link,

@@ -2,9 +2,11 @@
 use crate::shown::{show, show_opened, show_reset};
 use crate::{counted, last_packet, open_within, seal_message};
 use mppe::Link;
+use std::io;
+use std::io::Write;
 
 // Both ends, the packet sealed last, and one that was kept.
-#[derive(Drop)]
+#[derive(Clone, Copy)]
 struct Ends {
     sender: Link,
     receiver: Link,
@@ -14,18 +16,19 @@ struct Ends {
 
 // A loss of the first packet; three counts that end in 0xFF; a burst lost over such a count, packets with A, and 2,047 in a row. Then every
 // way to be refused, and the wrap of the counts.
-pub fn all(first: Link) {
+pub fn all<W: Write>(writer: &mut W, first: Link) -> io::Result<()> {
     run(
+        writer,
         first,
         b"ssorrsorsoqsososoqsososoqsososoqxsosorsosoqsossosorssoqsosoXsosorsoXsksol",
-    );
-    run(first, b"sososksoosnspsdolrsaorsnpdoosnpdaoksol");
-    run(counted(first, 4091), b"sosososososo");
+    )?;
+    run(writer, first, b"sososksoosnspsdolrsaorsnpdoosnpdaoksol")?;
+    run(writer, counted(first, 4091), b"sosososososo")
 }
 
 // A run of events, from one record at both ends.
-fn run(link: Link, script: &[u8]) {
-    report::numbered(b"cases from", 0, 0, b"");
+fn run<W: Write>(writer: &mut W, link: Link, script: &[u8]) -> io::Result<()> {
+    report::numbered(writer, b"cases from", 0, 0, b"")?;
     let mut ends = Ends {
         sender: link,
         receiver: link,
@@ -34,32 +37,33 @@ fn run(link: Link, script: &[u8]) {
     };
     let mut n = 0;
     while n < script.len() {
-        ends = event(ends, script[n], n);
+        ends = event(writer, ends, script[n], n)?;
         n += 1;
     }
+    Ok(())
 }
 
 // One event: `s` seals, `r` is a Reset-Request that the sender takes, `k` keeps the packet sealed last, `q` are packets unseen up
 // to a count that ends in 0xFD, `x` 63 lost and `X` 2,047 lost; any other is an arrival.
-fn event(ends: Ends, code: u8, n: usize) -> Ends {
+fn event<W: Write>(writer: &mut W, ends: Ends, code: u8, n: usize) -> io::Result<Ends> {
     match code {
-        b's' => seal(ends, n),
-        b'r' => ask(ends, n),
-        b'k' => keep(ends),
-        b'q' => pass_all(ends, (509 - ends.sender.count as usize % 256) % 256),
-        b'x' => lose(ends, 63),
-        b'X' => lose(ends, 2047),
-        _ => arrive(ends, code, n),
+        b's' => seal(writer, ends, n),
+        b'r' => ask(writer, ends, n),
+        b'k' => Ok(keep(ends)),
+        b'q' => Ok(pass_all(ends, (509 - ends.sender.count as usize % 256) % 256)),
+        b'x' => Ok(lose(ends, 63)),
+        b'X' => Ok(lose(ends, 2047)),
+        _ => arrive(writer, ends, code, n),
     }
 }
 
 // A packet is sealed.
-fn seal(ends: Ends, n: usize) -> Ends {
+fn seal<W: Write>(writer: &mut W, ends: Ends, n: usize) -> io::Result<Ends> {
     let mut wire = [0xEEu8; 18];
     let sender = ends.sender;
     let made = seal_message(sender, &mut wire);
-    show(b"sealed", n, made, &wire);
-    sent(ends, made.link, wire)
+    show(writer, b"sealed", n, made, &wire)?;
+    Ok(sent(ends, made.link, wire))
 }
 
 // The ends after a packet is sealed.
@@ -79,10 +83,14 @@ fn lose(ends: Ends, packets: usize) -> Ends {
 }
 
 // A Reset-Request reaches the sender.
-fn ask(ends: Ends, n: usize) -> Ends {
+fn ask<W: Write>(writer: &mut W, ends: Ends, n: usize) -> io::Result<Ends> {
     let sender = ends.sender;
     let wire = ends.wire;
-    sent(ends, show_reset(n, sender, b"\x0e\x07\x00\x04"), wire)
+    Ok(sent(
+        ends,
+        show_reset(writer, n, sender, b"\x0e\x07\x00\x04")?,
+        wire,
+    ))
 }
 
 // The packet sealed last is kept.
@@ -121,11 +129,14 @@ fn received(ends: Ends, receiver: Link) -> Ends {
 
 // A packet arrives as it is; `d` without D, `a` with A turned over, `p` with another protocol number, `n` without room; `l` is the one
 // that was kept.
-fn arrive(ends: Ends, code: u8, n: usize) -> Ends {
+fn arrive<W: Write>(writer: &mut W, ends: Ends, code: u8, n: usize) -> io::Result<Ends> {
     let receiver = ends.receiver;
     let wire = arriving(ends, code);
     let room = if code == b'n' { 13 } else { 14 };
-    received(ends, show_opened(b"opened", n, receiver, &wire, room))
+    Ok(received(
+        ends,
+        show_opened(writer, b"opened", n, receiver, &wire, room)?,
+    ))
 }
 
 // The packet that arrives.

@@ -1,7 +1,11 @@
 // Writes and reads Challenge and Response packets: RFC 2759's own values, the limits of 01, and every field changed. It prints what is answered.
+#![tactic(auto)]
+
 ghost use Rattle.std.specs.Prelude.{◌<◌, ◌≤◌};
 
 use mschap_packets::Kind;
+use std::io;
+use std::io::{BufWriter, Write};
 
 // RFC 2759, 9.2: the authenticator's challenge.
 const AUTHENTICATOR: [u8; 16] = [
@@ -22,68 +26,86 @@ const LENGTHS: [usize; 18] = [
     0, 5, 20, 21, 22, 25, 53, 54, 55, 58, 277, 278, 310, 311, 319, 320, 321, 65535,
 ];
 
+// Prints them to standard output, by blocks.
+fn main(rt: HostRuntime) -> io::Result<()> {
+    let mut writer = BufWriter::new(rt.alloc(), io::writer(&rt))?;
+    print_all(&mut writer)?;
+    writer.flush()
+}
+
 // All cases, in the order of tests/mschap_packets.c.
-fn main() {
-    cases(Kind::Challenge, 21);
-    cases(Kind::Response, 54);
-    exchanged();
-    challenges();
-    responses();
+fn print_all<W: Write>(writer: &mut W) -> io::Result<()> {
+    cases(writer, Kind::Challenge, 21)?;
+    cases(writer, Kind::Response, 54)?;
+    exchanged(writer)?;
+    challenges(writer)?;
+    responses(writer)
 }
 
 // The cases of one kind of packet, whose least length is given.
-fn cases(kind: Kind, least: usize)
+fn cases<W: Write>(writer: &mut W, kind: Kind, least: usize) -> io::Result<()>
     requires { (21 ≤ least) × (least ≤ 54) }
 {
-    names(kind, least);
-    slices(kind);
-    changed(kind, 0x01);
-    changed(kind, 0x80);
-    lengths(kind);
-    long_and_reserved(kind);
+    names(writer, kind, least)?;
+    slices(writer, kind)?;
+    changed(writer, kind, 0x01)?;
+    changed(writer, kind, 0x80)?;
+    lengths(writer, kind)?;
+    long_and_reserved(writer, kind)
 }
 
 // Names of every length at a limit.
-fn names(kind: Kind, least: usize)
+fn names<W: Write>(writer: &mut W, kind: Kind, least: usize) -> io::Result<()>
     requires { (21 ≤ least) × (least ≤ 54) }
 {
-    rooms(kind, least, 0);
-    rooms(kind, least, 1);
-    rooms(kind, least, 255);
-    rooms(kind, least, 256);
-    rooms(kind, least, 257);
+    rooms(writer, kind, least, 0)?;
+    rooms(writer, kind, least, 1)?;
+    rooms(writer, kind, least, 255)?;
+    rooms(writer, kind, least, 256)?;
+    rooms(writer, kind, least, 257)
 }
 
 // Buffers with no room, with one octet too few, with just room and with more.
-fn rooms(kind: Kind, least: usize, n: usize)
+fn rooms<W: Write>(writer: &mut W, kind: Kind, least: usize, n: usize) -> io::Result<()>
     requires { (21 ≤ least) × (least ≤ 54) × (n ≤ 257) }
 {
     let length = least + n;
-    named(kind, n, 0);
-    named(kind, n, length - 1);
-    named(kind, n, length);
-    named(kind, n, length + 3);
+    named(writer, kind, n, 0)?;
+    named(writer, kind, n, length - 1)?;
+    named(writer, kind, n, length)?;
+    named(writer, kind, n, length + 3)
 }
 
 // A packet with a name of n octets, in a buffer of as many octets as asked.
-fn named(kind: Kind, n: usize, room: usize) {
+fn named<W: Write>(writer: &mut W, kind: Kind, n: usize, room: usize) -> io::Result<()> {
     let octets = counted();
     let mut out = [0xAAu8; 314];
-    in_front(kind, first(&octets, n), &mut out, room);
+    in_front(writer, kind, first(&octets, n), &mut out, room)
 }
 
 // A packet in the first octets of a buffer.
-fn in_front(kind: Kind, name: &[u8], out: &mut [u8], room: usize) {
+fn in_front<W: Write>(
+    writer: &mut W,
+    kind: Kind,
+    name: &[u8],
+    out: &mut [u8],
+    room: usize,
+) -> io::Result<()> {
     if out.len() < room {
-        return;
+        return Ok(());
     }
-    write_and_read(kind, name, &mut out[0..room]);
+    write_and_read(writer, kind, name, &mut out[0..room])
 }
 
 // A packet written, and the buffer read.
-fn write_and_read(kind: Kind, name: &[u8], out: &mut [u8]) {
-    write(kind, name, out);
-    read(kind, out);
+fn write_and_read<W: Write>(
+    writer: &mut W,
+    kind: Kind,
+    name: &[u8],
+    out: &mut [u8],
+) -> io::Result<()> {
+    write(writer, kind, name, out)?;
+    read(writer, kind, out)
 }
 
 // The first n octets, or all where there are fewer.
@@ -106,30 +128,32 @@ fn counted() -> [u8; 257] {
 }
 
 // RFC 2759's packet for its user, in a longer buffer.
-fn sample(kind: Kind) -> [u8; 320] {
+fn sample<W: Write>(writer: &mut W, kind: Kind) -> io::Result<[u8; 320]> {
     let mut out = [0x55u8; 320];
-    write(kind, b"User", &mut out);
-    out
+    write(writer, kind, b"User", &mut out)?;
+    Ok(out)
 }
 
 // The sample cut to every length up to 60.
-fn slices(kind: Kind) {
-    let packet = sample(kind);
+fn slices<W: Write>(writer: &mut W, kind: Kind) -> io::Result<()> {
+    let packet = sample(writer, kind)?;
     let mut i = 0;
     while i <= 60 {
-        read(kind, first(&packet, i));
+        read(writer, kind, first(&packet, i))?;
         i += 1;
     }
+    Ok(())
 }
 
 // The sample with bits of one octet turned, for each of the first 60.
-fn changed(kind: Kind, bits: u8) {
-    let packet = sample(kind);
+fn changed<W: Write>(writer: &mut W, kind: Kind, bits: u8) -> io::Result<()> {
+    let packet = sample(writer, kind)?;
     let mut i = 0;
     while i < 60 {
-        read(kind, &turned(packet, i, bits));
+        read(writer, kind, &turned(packet, i, bits))?;
         i += 1;
     }
+    Ok(())
 }
 
 // A packet with bits of octet i turned.
@@ -142,13 +166,14 @@ fn turned(packet: [u8; 320], i: usize, bits: u8) -> [u8; 320]
 }
 
 // The sample with other lengths named.
-fn lengths(kind: Kind) {
-    let packet = sample(kind);
+fn lengths<W: Write>(writer: &mut W, kind: Kind) -> io::Result<()> {
+    let packet = sample(writer, kind)?;
     let mut i = 0;
     while i < 18 {
-        read(kind, &lengthened(packet, LENGTHS[i]));
+        read(writer, kind, &lengthened(packet, LENGTHS[i]))?;
         i += 1;
     }
+    Ok(())
 }
 
 // A packet with another length named.
@@ -160,45 +185,47 @@ fn lengthened(packet: [u8; 320], n: usize) -> [u8; 320] {
 }
 
 // A name that is too long and a reserved octet that is not zero: 1 comes before 3.
-fn long_and_reserved(kind: Kind) {
-    let packet = lengthened(sample(kind), 311);
-    read(kind, &turned(packet, 21, 1));
+fn long_and_reserved<W: Write>(writer: &mut W, kind: Kind) -> io::Result<()> {
+    let packet = lengthened(sample(writer, kind)?, 311);
+    read(writer, kind, &turned(packet, 21, 1))
 }
 
 // Each kind read as the other.
-fn exchanged() {
-    read(Kind::Response, &sample(Kind::Challenge));
-    read(Kind::Challenge, &sample(Kind::Response));
+fn exchanged<W: Write>(writer: &mut W) -> io::Result<()> {
+    let challenge = sample(writer, Kind::Challenge)?;
+    read(writer, Kind::Response, &challenge)?;
+    let response = sample(writer, Kind::Response)?;
+    read(writer, Kind::Challenge, &response)
 }
 
 // Challenges of other lengths; 3 comes before 2.
-fn challenges() {
-    challenge_of(0, &mut [0xAA; 30]);
-    challenge_of(15, &mut [0xAA; 30]);
-    challenge_of(16, &mut [0xAA; 30]);
-    challenge_of(17, &mut [0xAA; 30]);
-    challenge_of(15, &mut []);
+fn challenges<W: Write>(writer: &mut W) -> io::Result<()> {
+    challenge_of(writer, 0, &mut [0xAA; 30])?;
+    challenge_of(writer, 15, &mut [0xAA; 30])?;
+    challenge_of(writer, 16, &mut [0xAA; 30])?;
+    challenge_of(writer, 17, &mut [0xAA; 30])?;
+    challenge_of(writer, 15, &mut [])
 }
 
 // A Challenge with the first n octets for its challenge.
-fn challenge_of(n: usize, out: &mut [u8]) {
+fn challenge_of<W: Write>(writer: &mut W, n: usize, out: &mut [u8]) -> io::Result<()> {
     let octets = counted();
     let answer = mschap_packets::write_challenge(255, first(&octets, n), b"User", out);
-    report::numbered(b"challenge of", n, answer, out);
+    report::numbered(writer, b"challenge of", n, answer, out)
 }
 
 // Peer challenges and NT-Responses of other lengths; 3 comes before 2.
-fn responses() {
-    response_of(15, 24, &mut [0xAA; 60]);
-    response_of(17, 24, &mut [0xAA; 60]);
-    response_of(16, 23, &mut [0xAA; 60]);
-    response_of(16, 25, &mut [0xAA; 60]);
-    response_of(16, 24, &mut [0xAA; 60]);
-    response_of(0, 0, &mut []);
+fn responses<W: Write>(writer: &mut W) -> io::Result<()> {
+    response_of(writer, 15, 24, &mut [0xAA; 60])?;
+    response_of(writer, 17, 24, &mut [0xAA; 60])?;
+    response_of(writer, 16, 23, &mut [0xAA; 60])?;
+    response_of(writer, 16, 25, &mut [0xAA; 60])?;
+    response_of(writer, 16, 24, &mut [0xAA; 60])?;
+    response_of(writer, 0, 0, &mut [])
 }
 
 // A Response with the first n and m octets for its two fields.
-fn response_of(n: usize, m: usize, out: &mut [u8]) {
+fn response_of<W: Write>(writer: &mut W, n: usize, m: usize, out: &mut [u8]) -> io::Result<()> {
     let peer = counted();
     let response = counted();
     let answer = mschap_packets::write_response(
@@ -208,47 +235,59 @@ fn response_of(n: usize, m: usize, out: &mut [u8]) {
         b"User",
         out,
     );
-    report::numbered(b"response of", n, answer, out);
+    report::numbered(writer, b"response of", n, answer, out)
 }
 
 // Writes RFC 2759's values with a name, and prints the number and the whole buffer.
-fn write(kind: Kind, name: &[u8], out: &mut [u8]) {
+fn write<W: Write>(writer: &mut W, kind: Kind, name: &[u8], out: &mut [u8]) -> io::Result<()> {
     match kind {
         Kind::Challenge => {
             let answer = mschap_packets::write_challenge(7, &AUTHENTICATOR, name, out);
-            report::numbered(b"write challenge", name.len(), answer, out);
+            report::numbered(writer, b"write challenge", name.len(), answer, out)
         }
         Kind::Response => {
             let answer = mschap_packets::write_response(7, &PEER, &NT_RESPONSE, name, out);
-            report::numbered(b"write response", name.len(), answer, out);
+            report::numbered(writer, b"write response", name.len(), answer, out)
         }
     }
 }
 
 // Prints the fields and the name that a packet has.
-fn read(kind: Kind, packet: &[u8]) {
+fn read<W: Write>(writer: &mut W, kind: Kind, packet: &[u8]) -> io::Result<()> {
     match kind {
-        Kind::Challenge => read_challenge(packet),
-        Kind::Response => read_response(packet),
+        Kind::Challenge => read_challenge(writer, packet)?,
+        Kind::Response => read_response(writer, packet)?,
     }
     let name = mschap_packets::name(kind, packet);
-    report::numbered(b"name of", name.len(), 0, name);
+    report::numbered(writer, b"name of", name.len(), 0, name)
 }
 
 // The fields of a Challenge: number, identifier, value.
-fn read_challenge(packet: &[u8]) {
+fn read_challenge<W: Write>(writer: &mut W, packet: &[u8]) -> io::Result<()> {
     let c = mschap_packets::read_challenge(packet);
     let value = c.value;
-    report::numbered(b"challenge", wide(c.identifier), c.answer, &value);
+    report::numbered(writer, b"challenge", wide(c.identifier), c.answer, &value)
 }
 
 // The fields of a Response: number, identifier, peer challenge, NT-Response.
-fn read_response(packet: &[u8]) {
+fn read_response<W: Write>(writer: &mut W, packet: &[u8]) -> io::Result<()> {
     let r = mschap_packets::read_response(packet);
     let peer = r.peer_challenge;
     let response = r.nt_response;
-    report::numbered(b"peer challenge", wide(r.identifier), r.answer, &peer);
-    report::numbered(b"NT-Response", wide(r.identifier), r.answer, &response);
+    report::numbered(
+        writer,
+        b"peer challenge",
+        wide(r.identifier),
+        r.answer,
+        &peer,
+    )?;
+    report::numbered(
+        writer,
+        b"NT-Response",
+        wide(r.identifier),
+        r.answer,
+        &response,
+    )
 }
 
 // An octet as a number to print.

@@ -1,8 +1,12 @@
 // Runs RC4 on the vectors of RFC 6229 and at the limits of 01, and prints what it answers.
+#![tactic(auto)]
+
 ghost use Rattle.std.specs.Prelude.{◌≡◌, ◌<◌, ◌≤◌, length};
 ghost use Rattle.rc4.specs.Answers.{draw_answer};
 
 use rc4::{Drawn, Rc4};
+use std::io;
+use std::io::{BufWriter, Write};
 
 // How far the vectors reach into the keystream.
 const REACH: usize = 4112;
@@ -19,92 +23,105 @@ const HASHED: [u8; 32] = [
     0xEB, 0xB4, 0x62, 0x27, 0xC6, 0xCC, 0x8B, 0x37, 0x64, 0x19, 0x10, 0x83, 0x32, 0x22, 0x77, 0x2A,
 ];
 
+// Prints them to standard output, by blocks.
+fn main(rt: HostRuntime) -> io::Result<()> {
+    let mut writer = BufWriter::new(rt.alloc(), io::writer(&rt))?;
+    print_all(&mut writer)?;
+    writer.flush()
+}
+
 // All cases, in the order of tests/rc4.c.
-fn main() {
-    vectors(5);
-    vectors(7);
-    vectors(8);
-    vectors(10);
-    vectors(16);
-    vectors(24);
-    vectors(32);
-    keys();
-    draws();
-    permutations();
-    unkeyed();
-    buffers();
-    numbers();
-    lengths();
-    parts();
-    twice(&mut [0u8; 32], &mut [0u8; 32]);
+fn print_all<W: Write>(writer: &mut W) -> io::Result<()> {
+    vectors(writer, 5)?;
+    vectors(writer, 7)?;
+    vectors(writer, 8)?;
+    vectors(writer, 10)?;
+    vectors(writer, 16)?;
+    vectors(writer, 24)?;
+    vectors(writer, 32)?;
+    keys(writer)?;
+    draws(writer)?;
+    permutations(writer)?;
+    unkeyed(writer)?;
+    buffers(writer)?;
+    numbers(writer)?;
+    lengths(writer)?;
+    parts(writer)?;
+    twice(writer, &mut [0u8; 32], &mut [0u8; 32])
 }
 
 // Both keys of n octets of RFC 6229, section 2.
-fn vectors(n: usize)
+fn vectors<W: Write>(writer: &mut W, n: usize) -> io::Result<()>
     requires { n ≤ 32 }
 {
-    vector(b"key 1, bits", n * 8, &COUNTED[0..n]);
-    vector(b"key 2, bits", n * 8, &HASHED[32 - n..32]);
+    vector(writer, b"key 1, bits", n * 8, &COUNTED[0..n])?;
+    vector(writer, b"key 2, bits", n * 8, &HASHED[32 - n..32])
 }
 
 // The keystream of a key at every offset that is printed.
-fn vector(label: &[u8], bits: usize, key: &[u8]) {
+fn vector<W: Write>(writer: &mut W, label: &[u8], bits: usize, key: &[u8]) -> io::Result<()> {
     let k = Rc4::keyed(key);
-    report::numbered(label, bits, k.answer, key);
+    report::numbered(writer, label, bits, k.answer, key)?;
     let mut out = [0u8; REACH];
     let s = k.state;
     let r = s.run(&[0u8; REACH], &mut out);
-    offsets(r.answer, &out);
-    applied(key);
+    offsets(writer, r.answer, &out)?;
+    applied(writer, key)
 }
 
 // The keystream by one call, at the last offset.
-fn applied(key: &[u8]) {
+fn applied<W: Write>(writer: &mut W, key: &[u8]) -> io::Result<()> {
     let mut out = [0u8; REACH];
     let answer = rc4::apply(key, &[0u8; REACH], &mut out);
-    report::numbered(b"in one call, offset", 4096, answer, &out[4096..]);
+    report::numbered(writer, b"in one call, offset", 4096, answer, &out[4096..])
 }
 
 // A keystream about each offset.
-fn offsets(answer: u8, out: &[u8])
+fn offsets<W: Write>(writer: &mut W, answer: u8, out: &[u8]) -> io::Result<()>
     requires { length out.now ≡ 4112 }
 {
-    around(answer, out, 16);
-    around(answer, out, 256);
-    around(answer, out, 512);
-    around(answer, out, 768);
-    around(answer, out, 1024);
-    around(answer, out, 1536);
-    around(answer, out, 2048);
-    around(answer, out, 3072);
-    around(answer, out, 4096);
+    around(writer, answer, out, 16)?;
+    around(writer, answer, out, 256)?;
+    around(writer, answer, out, 512)?;
+    around(writer, answer, out, 768)?;
+    around(writer, answer, out, 1024)?;
+    around(writer, answer, out, 1536)?;
+    around(writer, answer, out, 2048)?;
+    around(writer, answer, out, 3072)?;
+    around(writer, answer, out, 4096)
 }
 
 // Prints sixteen octets before an offset and sixteen behind it.
-fn around(answer: u8, out: &[u8], offset: usize)
+fn around<W: Write>(writer: &mut W, answer: u8, out: &[u8], offset: usize) -> io::Result<()>
     requires { (16 ≤ offset) × (offset ≤ 4096) × (length out.now ≡ 4112) }
 {
-    report::numbered(b"offset", offset - 16, answer, &out[offset - 16..offset]);
-    report::numbered(b"offset", offset, answer, &out[offset..offset + 16]);
+    report::numbered(
+        writer,
+        b"offset",
+        offset - 16,
+        answer,
+        &out[offset - 16..offset],
+    )?;
+    report::numbered(writer, b"offset", offset, answer, &out[offset..offset + 16])
 }
 
 // Keys at and beyond the limits of their length; a refusal's box is all zeros.
-fn keys() {
-    box_of(0);
-    box_of(1);
-    box_of(256);
-    box_of(257);
+fn keys<W: Write>(writer: &mut W) -> io::Result<()> {
+    box_of(writer, 0)?;
+    box_of(writer, 1)?;
+    box_of(writer, 256)?;
+    box_of(writer, 257)
 }
 
 // Prints the box of a key of n octets.
-fn box_of(n: usize)
+fn box_of<W: Write>(writer: &mut W, n: usize) -> io::Result<()>
     requires { n ≤ 257 }
 {
     let key = scattered();
     let k = Rc4::keyed(&key[0..n]);
     let s = k.state;
     let cells = s.cells;
-    report::numbered(b"key, octets", n, k.answer, &cells);
+    report::numbered(writer, b"key, octets", n, k.answer, &cells)
 }
 
 // A key of 257 octets, which repeat after 128.
@@ -121,39 +138,40 @@ fn scattered() -> [u8; 257] {
 }
 
 // How a draw is made.
-#[derive(Drop)]
+#[derive(Clone, Copy)]
 enum Form {
     ByValue,
     ByReference,
 }
 
 // Draws from a key's box, and from a box made by hand that is no permutation.
-fn draws() {
+fn draws<W: Write>(writer: &mut W) -> io::Result<()> {
     let k = Rc4::keyed(&COUNTED[..5]);
     let s = k.state;
-    both_draws(b"draws from a key", s);
+    both_draws(writer, b"draws from a key", s)?;
     let mut cells = s.cells;
     cells[0] = 9;
     cells[200] = 9;
     both_draws(
+        writer,
         b"draws from a box made by hand",
         Rc4 {
             cells,
             i: 255,
             j: 200,
         },
-    );
+    )
 }
 
 // Draws by value, and from a generator lent by reference.
-fn both_draws(label: &[u8], state: Rc4) {
-    show_draws(label, Form::ByValue, state);
-    show_draws(b"the same in place", Form::ByReference, state);
+fn both_draws<W: Write>(writer: &mut W, label: &[u8], state: Rc4) -> io::Result<()> {
+    show_draws(writer, label, Form::ByValue, state)?;
+    show_draws(writer, b"the same in place", Form::ByReference, state)
 }
 
 // Prints the next sixteen draws from a state.
-fn show_draws(label: &[u8], form: Form, state: Rc4) {
-    report::line(label, 0, &sixteen_draws(form, state));
+fn show_draws<W: Write>(writer: &mut W, label: &[u8], form: Form, state: Rc4) -> io::Result<()> {
+    report::line(writer, label, 0, &sixteen_draws(form, state))
 }
 
 // Sixteen draws, one at a time.
@@ -189,15 +207,15 @@ fn drawn_in_place(state: Rc4) -> Drawn
 }
 
 // Whether boxes are permutations: a key's, one after a draw, one of zeros, and a key's with each number missing in turn.
-fn permutations() {
+fn permutations<W: Write>(writer: &mut W) -> io::Result<()> {
     let k = Rc4::keyed(&COUNTED[..16]);
     let s = k.state;
-    report::line(b"box of a key, a permutation", told(s), b"");
+    report::line(writer, b"box of a key, a permutation", told(s), b"")?;
     let d = s.draw();
-    report::line(b"after a draw", told(d.state), b"");
+    report::line(writer, b"after a draw", told(d.state), b"")?;
     let refused = Rc4::keyed(b"");
-    report::line(b"box of zeros", told(refused.state), b"");
-    report::line(b"each number missing", 0, &each_missing(s));
+    report::line(writer, b"box of zeros", told(refused.state), b"")?;
+    report::line(writer, b"each number missing", 0, &each_missing(s))
 }
 
 // 1 for a permutation, and else 0.
@@ -226,26 +244,31 @@ fn with_repeated(state: Rc4, n: usize) -> Rc4
 }
 
 // Whether states are unkeyed: that one, with an index that is not 0, with two cells exchanged, with a repeated cell, of a key, of zeros.
-fn unkeyed() {
+fn unkeyed<W: Write>(writer: &mut W) -> io::Result<()> {
     let s = Rc4::unkeyed();
-    show_unkeyed(b"unkeyed state", s);
-    show_unkeyed(b"with another i", with_indices(s, 1, 0));
-    show_unkeyed(b"with another j", with_indices(s, 0, 128));
-    show_unkeyed(b"with two cells exchanged", with_last_exchanged(s));
-    show_unkeyed(b"with a repeated cell", with_repeated(s, 0));
+    show_unkeyed(writer, b"unkeyed state", s)?;
+    show_unkeyed(writer, b"with another i", with_indices(s, 1, 0))?;
+    show_unkeyed(writer, b"with another j", with_indices(s, 0, 128))?;
+    show_unkeyed(writer, b"with two cells exchanged", with_last_exchanged(s))?;
+    show_unkeyed(writer, b"with a repeated cell", with_repeated(s, 0))?;
     let k = Rc4::keyed(&COUNTED[..16]);
-    show_unkeyed(b"state of a key", k.state);
+    show_unkeyed(writer, b"state of a key", k.state)?;
     let refused = Rc4::keyed(b"");
-    show_unkeyed(b"state of zeros", refused.state);
+    show_unkeyed(writer, b"state of zeros", refused.state)
 }
 
 // Prints 1 for the unkeyed state and else 0, and a state's cells and indices.
-fn show_unkeyed(label: &[u8], state: Rc4) {
+fn show_unkeyed<W: Write>(writer: &mut W, label: &[u8], state: Rc4) -> io::Result<()> {
     let cells = state.cells;
     let mut octets = [0u8; 258];
     octets::copy(&cells, &mut octets);
     octets::copy_at(&[state.i, state.j], 256, &mut octets);
-    report::line(label, if state.is_unkeyed() { 1 } else { 0 }, &octets);
+    report::line(
+        writer,
+        label,
+        if state.is_unkeyed() { 1 } else { 0 },
+        &octets,
+    )
 }
 
 // A state with other indices.
@@ -268,44 +291,86 @@ fn with_last_exchanged(state: Rc4) -> Rc4 {
 }
 
 // Lent buffers longer than the text, as long, and one octet too short; an empty text.
-fn buffers() {
-    buffer(b"buffer with room left", 9, 12);
-    buffer(b"buffer as long as the text", 12, 12);
-    buffer(b"buffer one octet too short", 13, 12);
-    buffer(b"empty text", 0, 12);
-    buffer(b"empty text and buffer", 0, 0);
+fn buffers<W: Write>(writer: &mut W) -> io::Result<()> {
+    buffer(writer, b"buffer with room left", 9, 12)?;
+    buffer(writer, b"buffer as long as the text", 12, 12)?;
+    buffer(writer, b"buffer one octet too short", 13, 12)?;
+    buffer(writer, b"empty text", 0, 12)?;
+    buffer(writer, b"empty text and buffer", 0, 0)
 }
 
 // A text of n octets run under one key: the whole buffer after it, and draws from the state that it hands back.
-fn buffer(label: &[u8], n: usize, room: usize)
+fn buffer<W: Write>(writer: &mut W, label: &[u8], n: usize, room: usize) -> io::Result<()>
     requires { (n ≤ 32) × (room ≤ 32) }
 {
     let k = Rc4::keyed(&COUNTED[..16]);
     let s = k.state;
-    show_draws(b"draws after it", Form::ByValue, ran(label, s, 0, n, room));
+    let after = ran(writer, label, s, 0, n, room)?;
+    show_draws(writer, b"draws after it", Form::ByValue, after)
 }
 
 // Runs a part of a text into a buffer, prints all of it, and hands back the state.
-fn ran(label: &[u8], s: Rc4, from: usize, to: usize, room: usize) -> Rc4
+fn ran<W: Write>(
+    writer: &mut W,
+    label: &[u8],
+    s: Rc4,
+    from: usize,
+    to: usize,
+    room: usize,
+) -> io::Result<Rc4>
     requires { (from ≤ to) × (to ≤ 32) × (room ≤ 32) }
 {
     let mut out = [0xEEu8; 32];
-    shown(label, s, &COUNTED[from..to], &mut out[0..room])
+    shown(writer, label, s, &COUNTED[from..to], &mut out[0..room])
 }
 
 // Runs a text, prints the whole buffer, and hands back the state.
-fn shown(label: &[u8], s: Rc4, text: &[u8], out: &mut [u8]) -> Rc4 {
+fn shown<W: Write>(
+    writer: &mut W,
+    label: &[u8],
+    s: Rc4,
+    text: &[u8],
+    out: &mut [u8],
+) -> io::Result<Rc4> {
     let r = s.run(text, out);
-    report::line(label, r.answer, out);
-    r.state
+    report::line(writer, label, r.answer, out)?;
+    Ok(r.state)
 }
 
 // Texts that are taken only where they begin with a number within bounds; 0x9BC5 comes out under the key of 128 bits.
-fn numbers() {
-    judged(b"number within bounds", false, 0, 0x9BC5, 0x9BC5, 9, 12);
-    judged(b"number below them", false, 0, 0x9BC6, 0xFFFF, 9, 12);
-    judged(b"number above them", false, 0, 0x0000, 0x9BC4, 9, 12);
+fn numbers<W: Write>(writer: &mut W) -> io::Result<()> {
     judged(
+        writer,
+        b"number within bounds",
+        false,
+        0,
+        0x9BC5,
+        0x9BC5,
+        9,
+        12,
+    )?;
+    judged(
+        writer,
+        b"number below them",
+        false,
+        0,
+        0x9BC6,
+        0xFFFF,
+        9,
+        12,
+    )?;
+    judged(
+        writer,
+        b"number above them",
+        false,
+        0,
+        0x0000,
+        0x9BC4,
+        9,
+        12,
+    )?;
+    judged(
+        writer,
         b"within bounds, keyed afresh",
         true,
         16,
@@ -313,9 +378,19 @@ fn numbers() {
         0x9BC5,
         9,
         12,
-    );
-    judged(b"above them, keyed afresh", true, 16, 0x0000, 0x9BC4, 9, 12);
+    )?;
     judged(
+        writer,
+        b"above them, keyed afresh",
+        true,
+        16,
+        0x0000,
+        0x9BC4,
+        9,
+        12,
+    )?;
+    judged(
+        writer,
         b"keyed afresh without a key",
         true,
         0,
@@ -323,14 +398,42 @@ fn numbers() {
         0xFFFF,
         9,
         12,
-    );
-    judged(b"text that is a number", false, 0, 0x0000, 0xFFFF, 2, 12);
-    judged(b"text too short for one", false, 0, 0x0000, 0xFFFF, 1, 12);
-    judged(b"number without room", false, 0, 0x0000, 0xFFFF, 13, 12);
+    )?;
+    judged(
+        writer,
+        b"text that is a number",
+        false,
+        0,
+        0x0000,
+        0xFFFF,
+        2,
+        12,
+    )?;
+    judged(
+        writer,
+        b"text too short for one",
+        false,
+        0,
+        0x0000,
+        0xFFFF,
+        1,
+        12,
+    )?;
+    judged(
+        writer,
+        b"number without room",
+        false,
+        0,
+        0x0000,
+        0xFFFF,
+        13,
+        12,
+    )
 }
 
 // Judges a text of n octets by bounds, under the key of 128 bits or one of so many octets: the whole buffer after it, and draws from the state.
-fn judged(
+fn judged<W: Write>(
+    writer: &mut W,
     label: &[u8],
     fresh: bool,
     octets: usize,
@@ -338,11 +441,12 @@ fn judged(
     highest: u16,
     n: usize,
     room: usize,
-)
+) -> io::Result<()>
     requires { (octets ≤ 32) × (n ≤ 32) × (room ≤ 32) }
 {
     let mut out = [0xEEu8; 32];
     show_judged(
+        writer,
         label,
         held(fresh),
         fresh,
@@ -351,7 +455,7 @@ fn judged(
         highest,
         &COUNTED[0..n],
         &mut out[0..room],
-    );
+    )
 }
 
 // The state of the key of 128 bits, or none where RC4 is keyed afresh.
@@ -364,7 +468,8 @@ fn held(fresh: bool) -> Rc4 {
 }
 
 // Prints what is made of it.
-fn show_judged(
+fn show_judged<W: Write>(
+    writer: &mut W,
     label: &[u8],
     s: Rc4,
     fresh: bool,
@@ -373,53 +478,61 @@ fn show_judged(
     highest: u16,
     text: &[u8],
     out: &mut [u8],
-) {
+) -> io::Result<()> {
     let r = s.run_within(fresh, key, lowest, highest, text, out);
-    report::line(label, r.answer, out);
-    show_draws(b"draws after it", Form::ByValue, r.state);
+    report::line(writer, label, r.answer, out)?;
+    show_draws(writer, b"draws after it", Form::ByValue, r.state)
 }
 
 // Texts at and beyond the limit of their length.
-fn lengths() {
+fn lengths<W: Write>(writer: &mut W) -> io::Result<()> {
     let k = Rc4::keyed(&COUNTED[..16]);
     let s = k.state;
-    let t = long(s, 65535, 65536);
-    let u = long(t, 65536, 65536);
-    let v = long(u, 65536, 16);
-    show_draws(b"draws after it", Form::ByValue, v);
+    let t = long(writer, s, 65535, 65536)?;
+    let u = long(writer, t, 65536, 65536)?;
+    let v = long(writer, u, 65536, 16)?;
+    show_draws(writer, b"draws after it", Form::ByValue, v)
 }
 
 // Runs a long text of n octets into a long buffer, and hands back the state.
-fn long(s: Rc4, n: usize, room: usize) -> Rc4
+fn long<W: Write>(writer: &mut W, s: Rc4, n: usize, room: usize) -> io::Result<Rc4>
     requires { (n ≤ 65536) × (16 ≤ room) × (room ≤ 65536) }
 {
     let text = [0x11u8; 65536];
     let mut out = [0xEEu8; 65536];
-    last_sixteen(n, s, &text[0..n], &mut out[0..room])
+    last_sixteen(writer, n, s, &text[0..n], &mut out[0..room])
 }
 
 // Runs it, and prints the last sixteen octets of the buffer.
-fn last_sixteen(n: usize, s: Rc4, text: &[u8], out: &mut [u8]) -> Rc4
+fn last_sixteen<W: Write>(
+    writer: &mut W,
+    n: usize,
+    s: Rc4,
+    text: &[u8],
+    out: &mut [u8],
+) -> io::Result<Rc4>
     requires { 16 ≤ length out.old }
 {
     let r = s.run(text, out);
-    report::numbered(b"text, octets", n, r.answer, &out[out.len() - 16..]);
-    r.state
+    report::numbered(writer, b"text, octets", n, r.answer, &out[out.len() - 16..])?;
+    Ok(r.state)
 }
 
 // A text in one run, and cut into two runs on one box.
-fn parts() {
+fn parts<W: Write>(writer: &mut W) -> io::Result<()> {
     let k = Rc4::keyed(&HASHED);
     let s = k.state;
-    ran(b"text in one run", s, 0, 32, 32);
-    let t = ran(b"its first 13 octets", s, 0, 13, 13);
-    ran(b"the rest of them", t, 13, 32, 19);
+    ran(writer, b"text in one run", s, 0, 32, 32)?;
+    let t = ran(writer, b"its first 13 octets", s, 0, 13, 13)?;
+    ran(writer, b"the rest of them", t, 13, 32, 19)?;
+    Ok(())
 }
 
 // A text run twice from one state.
-fn twice(once: &mut [u8], again: &mut [u8]) {
+fn twice<W: Write>(writer: &mut W, once: &mut [u8], again: &mut [u8]) -> io::Result<()> {
     let k = Rc4::keyed(&HASHED);
     let s = k.state;
     s.run(&COUNTED, once);
-    shown(b"text run twice", s, once, again);
+    shown(writer, b"text run twice", s, once, again)?;
+    Ok(())
 }
