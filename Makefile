@@ -48,7 +48,7 @@ archive:
 	@tools/needs rt gcc
 	@tools/prove library host
 	@mkdir -p target/lib
-	@cp target/staticlib/libhost.a target/lib/libudukemb.a
+	@cp crates/host/out/libhost.a target/lib/libudukemb.a
 
 install: archive
 	@tools/install "$(PREFIX)" "$(DESTDIR)"
