@@ -1,7 +1,7 @@
 /*
  * Udukemb for C: MS-CHAPv2 responses and checks, MPPE start keys, the MPPE option, a link's packets, tapes of packets
- * and marks beside them, and the SSTP binding key. Link with libudukemb.a, for x86-64 Linux; it needs nothing but
- * memcpy and memset.
+ * and marks beside them, and the SSTP binding key. Link with libudukemb.a, for x86-64 Linux and processors of the level
+ * x86-64-v2; it needs nothing but memcpy and memset.
  *
  * Every call
  *   - takes any octets of any length. A lent part is a pointer and its length in octets; a part of length 0 may have a
@@ -31,28 +31,28 @@
  *
  * Stack: the most octets that a call takes below its caller's frame, with the arguments passed there and without what
  * memcpy and memset take:
- *       udukemb_authenticator_string    1200
- *       udukemb_base_key                 200
- *       udukemb_begin                   3000
- *       udukemb_binding_key             1600
- *       udukemb_check_authenticator     1200
- *       udukemb_check_response          2800
- *       udukemb_end                     3000
- *       udukemb_feed                    3800
- *       udukemb_marks_check             6200
+ *       udukemb_authenticator_string    1300
+ *       udukemb_base_key                 300
+ *       udukemb_begin                   2800
+ *       udukemb_binding_key             1300
+ *       udukemb_check_authenticator     1300
+ *       udukemb_check_response          1100
+ *       udukemb_end                     2900
+ *       udukemb_feed                    4100
+ *       udukemb_marks_check             7500
  *       udukemb_marks_read              1400
- *       udukemb_marks_write             6900
+ *       udukemb_marks_write             8200
  *       udukemb_new_link                 900
- *       udukemb_nt_response             2800
- *       udukemb_open                    4800
- *       udukemb_option_reply             200
+ *       udukemb_nt_response             1100
+ *       udukemb_open                    6100
+ *       udukemb_option_reply             300
  *       udukemb_reset                   1300
- *       udukemb_seal                    3700
- *       udukemb_start_key                900
+ *       udukemb_seal                    5500
+ *       udukemb_start_key                800
  *       udukemb_tape_begin               200
  *       udukemb_tape_read                200
- *       udukemb_tape_replay             5100
- *       udukemb_tape_write               200
+ *       udukemb_tape_replay             6500
+ *       udukemb_tape_write               300
  *       udukemb_write_reset              200
  */
 

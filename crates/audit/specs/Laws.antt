@@ -89,7 +89,7 @@ abbrev pub NoKeyChange : Type 0
 NoKeyChange = (s : Strength) (start session : List ℕ) → changes s start 0 session ≡ session
 
 -- .. and on every well-formed record. On others it is none: a key is put into its places with zeros behind it, so that octets which stand there
--- are cleared (`not_the_identity` in Example.antt)
+-- are cleared (`not_the_identity` in proofs/Example.antt)
 abbrev pub NoRecordChange : Type 0
 NoRecordChange = (l : Link) → well_formed l ≡ true → length l.session ≡ 16 → changed 0 l ≡ l
 
