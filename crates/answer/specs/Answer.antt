@@ -1,5 +1,7 @@
 -- The numbers a call may answer (01, "Numbers a call may answer", and 02), and how a call picks one.
-use Rattle.std.specs.Prelude.{Bool, true, false, not, List, [], ◌∷◌, ℕ, zero, suc, eqb, ltb, length}
+use Rattle.std.specs.Prelude.{Bool, true, false, not, List, [], ◌∷◌, ℕ, zero, suc, eqb, ltb, length, get_or, Result, Ok, Err}
+use Rattle.answer.specs.declared.Refusal.{Refusal}
+use Rattle.answer.specs.declared.Refusal.TheVariants.{Shape, Room, Size, Protocol, Flags, Repeat, Record, Strength, Domain, Late, Waiting}
 
 abbrev pub done : ℕ
 done = 0
@@ -39,6 +41,39 @@ late = 10
 -- "otherwise answer 11, waiting" (02, M-103)
 abbrev pub waiting : ℕ
 waiting = 11
+
+-- "Where an answer is an enum, a definition gives this paper's number and values for each of its cases": a refusal's number
+abbrev pub number : Refusal → ℕ
+number Shape = shape
+number Room = room
+number Size = size
+number Protocol = protocol
+number Flags = flags
+number Repeat = repeat
+number Record = not_record
+number Strength = strength
+number Domain = domain
+number Late = late
+number Waiting = waiting
+
+-- the number of a call's answer: 0, or that of its refusal
+abbrev pub number_of : {A : Type 0} → Result A Refusal → ℕ
+number_of (Ok x) = done
+number_of (Err refusal) = number refusal
+
+-- its values: those of the result, or what a refusal has there ("a refused answer's other numbers and octets are 0, its parts empty, its yes or no a no")
+abbrev pub value_of : {A : Type 0} → A → Result A Refusal → A
+value_of refused (Ok x) = x
+value_of refused (Err refusal) = refused
+
+-- the refusals in the order of their numbers, from 1 on
+abbrev pub refusals_in_order : List Refusal
+refusals_in_order = Shape ∷ Room ∷ Size ∷ Protocol ∷ Flags ∷ Repeat ∷ Record ∷ Strength ∷ Domain ∷ Late ∷ Waiting ∷ []
+
+-- what a call of a number gives: its result where the number is 0, and otherwise the refusal that has the number
+abbrev pub result_of : {A : Type 0} → ℕ → A → Result A Refusal
+result_of zero result = Ok result
+result_of (suc n) result = Err (get_or refusals_in_order n Waiting)
 
 -- the first where the test holds, else the second
 abbrev pub pick : {A : Type 0} → Bool → A → A → A

@@ -1,8 +1,11 @@
 -- Laws of the table: which number a call answers, what its number says of the rows, and what an answer then holds.
-use Rattle.std.specs.Prelude.{◌≡◌, refl, Bool, true, false, not, ◌&&◌, List, [], ◌∷◌, ◌++◌, ℕ, zero, suc, ◌<◌, ◌≤◌, eqb, ltb, length, drop}
+use Rattle.std.specs.Prelude.{◌≡◌, refl, Bool, true, false, not, ◌&&◌, List, [], ◌∷◌, ◌++◌, ℕ, zero, suc, ◌<◌, ◌≤◌, eqb, ltb, length, drop, get_or, Result, Ok, Err, is_ok}
 use Rattle.std.proofs.Common.{sym, ap, ◌∙◌, true≢false, suc-ne-zero, le_trans, lt-ltb, le-ltb, ltb-false, eq-eqb, ne_eqb, eqb-true}
-use Rattle.std.proofs.lemmas.Bool.{false≢true}
-use Rattle.answer.specs.Answer.{done, size, pick, outside, wrong, first_of, on_done}
+use Rattle.std.proofs.lemmas.Bool.{false≢true, ltb-true}
+use Rattle.std.proofs.Common.{arith}
+use Rattle.answer.specs.declared.Refusal.{Refusal}
+use Rattle.answer.specs.declared.Refusal.TheVariants.{Waiting}
+use Rattle.answer.specs.Answer.{done, size, pick, outside, wrong, first_of, on_done, refusals_in_order, result_of, number_of, value_of}
 
 -- both of two tests hold
 pub both : (a b : Bool) → a && b ≡ true → (a ≡ true) × (b ≡ true)
@@ -165,3 +168,73 @@ pub told : {A B : Type 0} {x : A} (answer-of : A → ℕ) (result-of : A → B) 
 told answer-of result-of y code result zeros e en er =
     let n = ap answer-of e ∙ en in
     (n, λ z. ap result-of e ∙ er ∙ rw (sym n ∙ z))
+
+-- a number that is in the table is that of its refusal
+pub number_result : {A : Type 0} (n : ℕ) (x : A) → ltb n 12 ≡ true → number_of (result_of n x) ≡ n
+number_result zero x h = refl
+number_result (suc zero) x h = refl
+number_result (suc (suc zero)) x h = refl
+number_result (suc (suc (suc zero))) x h = refl
+number_result (suc (suc (suc (suc zero)))) x h = refl
+number_result (suc (suc (suc (suc (suc zero))))) x h = refl
+number_result (suc (suc (suc (suc (suc (suc zero)))))) x h = refl
+number_result (suc (suc (suc (suc (suc (suc (suc zero))))))) x h = refl
+number_result (suc (suc (suc (suc (suc (suc (suc (suc zero)))))))) x h = refl
+number_result (suc (suc (suc (suc (suc (suc (suc (suc (suc zero))))))))) x h = refl
+number_result (suc (suc (suc (suc (suc (suc (suc (suc (suc (suc zero)))))))))) x h = refl
+number_result (suc (suc (suc (suc (suc (suc (suc (suc (suc (suc (suc zero))))))))))) x h = refl
+number_result (suc (suc (suc (suc (suc (suc (suc (suc (suc (suc (suc (suc n)))))))))))) x h = absurd (omega (arith, ltb-true (suc (suc (suc (suc (suc (suc (suc (suc (suc (suc (suc (suc n)))))))))))) 12 h))
+
+-- all numbers of these rows are in the table: then so is the one that is answered
+abbrev pub listed : List (ℕ × Bool) → Bool
+listed [] = true
+listed (row ∷ rows) = ltb row.0 12 && listed rows
+
+pub first_listed : (rows : List (ℕ × Bool)) → listed rows ≡ true → ltb (first_of rows) 12 ≡ true
+first_listed [] h = refl
+first_listed ((n, true) ∷ rows) h = (both (ltb n 12) (listed rows) h).0
+first_listed ((n, false) ∷ rows) h = first_listed rows (both (ltb n 12) (listed rows) h).1
+
+pub number_first : {A : Type 0} (rows : List (ℕ × Bool)) (x : A) → listed rows ≡ true → number_of (result_of (first_of rows) x) ≡ first_of rows
+number_first rows x h = number_result (first_of rows) x (first_listed rows h)
+
+-- the values of what is answered: the result where no row applies, and otherwise what a refusal has there
+pub value_result : {A : Type 0} (n : ℕ) (x zeros : A) → value_of zeros (result_of n x) ≡ on_done n x zeros
+value_result zero x zeros = refl
+value_result (suc n) x zeros = refl
+
+-- a result says that its number is 0 and which result it is, and a refusal that its number is not 0
+pub ok_only : {A : Type 0} {y : A} (n : ℕ) (x : A) → result_of n x ≡ Ok y → (n ≡ done) × (x ≡ y)
+ok_only zero x h = (refl, ap (value_of x) h)
+ok_only (suc n) x h = absurd (false≢true (ap is_ok h))
+
+pub err_only : {A : Type 0} {e : Refusal} (n : ℕ) (x : A) → result_of n x ≡ Err e → n ≡ done → ⊥
+err_only zero x h z = true≢false (ap is_ok h)
+err_only (suc n) x h z = suc-ne-zero n z
+
+-- a refusal is the same whatever was to be answered
+pub err_same : {A B : Type 0} {e : Refusal} (n : ℕ) (x : A) (y : B) → result_of n x ≡ Err e → result_of n y ≡ Err e
+err_same zero x y h = absurd (true≢false (ap is_ok h))
+err_same (suc n) x y h = ap (err_or (get_or refusals_in_order n Waiting)) h
+  where
+    err_or : {A B : Type 0} → Refusal → Result A Refusal → Result B Refusal
+    err_or d (Ok x) = Err d
+    err_or d (Err e) = Err e
+
+-- the refusal of the rows in front is that of them all, and their result leaves it to those behind them
+pub err_first : {A B : Type 0} {e : Refusal} (rows rest : List (ℕ × Bool)) (x : A) (y : B) → result_of (first_of rows) x ≡ Err e
+    → result_of (first_of (rows ++ rest)) y ≡ Err e
+err_first rows rest x y h = rw (rows_stop rows rest (err_only (first_of rows) x h)) (err_same (first_of rows) x y h)
+
+pub ok_first : {A B : Type 0} {z : A} (rows rest : List (ℕ × Bool)) (x : A) (y : B) → refusals rows ≡ true → result_of (first_of rows) x ≡ Ok z
+    → result_of (first_of (rows ++ rest)) y ≡ result_of (first_of rest) y
+ok_first rows rest x y all h = rw (rows_pass rows rest all (ok_only (first_of rows) x h).0)
+
+-- what a lent buffer holds behind a result, and behind a refusal
+pub ok_done : {A B : Type 0} {y : A} (n : ℕ) (x : A) (result kept : B) → result_of n x ≡ Ok y → on_done n result kept ≡ result
+ok_done zero x result kept h = refl
+ok_done (suc n) x result kept h = absurd (false≢true (ap is_ok h))
+
+pub err_done : {A B : Type 0} {e : Refusal} (n : ℕ) (x : A) (result kept : B) → result_of n x ≡ Err e → on_done n result kept ≡ kept
+err_done zero x result kept h = absurd (true≢false (ap is_ok h))
+err_done (suc n) x result kept h = refl

@@ -1,5 +1,8 @@
-// The numbers a call may answer (01, "Numbers a call may answer", and 02). specs/Answer.antt has the same numbers for contracts.
+// The numbers a call may answer (01, "Numbers a call may answer", and 02), and the refusals behind them. specs/Answer.antt has the same for contracts.
 #![tactic(auto)]
+
+ghost use Rattle.std.specs.Prelude.{◌≡◌};
+ghost use Rattle.answer.specs.Answer.{number, number_of};
 
 // No refusal applies.
 pub const DONE: u8 = 0;
@@ -25,3 +28,49 @@ pub const DOMAIN: u8 = 9;
 pub const LATE: u8 = 10;
 // A stateful receiver waits for a packet with bit A: it has no box for this one (02, M-103).
 pub const WAITING: u8 = 11;
+
+// Why a call refuses: the rows of the table, in its order.
+#[derive(Clone, Copy, Debug, PartialEq, Eq)]
+pub enum Refusal {
+    Shape,
+    Room,
+    Size,
+    Protocol,
+    Flags,
+    Repeat,
+    Record,
+    Strength,
+    Domain,
+    Late,
+    Waiting,
+}
+
+impl From<Refusal> for u8 {
+    ghost from_gives = { λ refusal n. n ≡ number refusal };
+
+    fn from(refusal: Refusal) -> u8 {
+        match refusal {
+            Refusal::Shape => SHAPE,
+            Refusal::Room => ROOM,
+            Refusal::Size => SIZE,
+            Refusal::Protocol => PROTOCOL,
+            Refusal::Flags => FLAGS,
+            Refusal::Repeat => REPEAT,
+            Refusal::Record => RECORD,
+            Refusal::Strength => STRENGTH,
+            Refusal::Domain => DOMAIN,
+            Refusal::Late => LATE,
+            Refusal::Waiting => WAITING,
+        }
+    }
+}
+
+// The number that C is told: that of the refusal, or 0.
+pub fn number_of<T>(answer: &Result<T, Refusal>) -> u8
+    ensures { result ≡ number_of answer.now }
+{
+    match answer {
+        Ok(_) => DONE,
+        Err(refusal) => u8::from(*refusal),
+    }
+}

@@ -1,11 +1,10 @@
 -- The ways out of calls that hand on what others gave.
 use mathlib.Core.Path.{◌≡◌, refl, sym, ap, ◌∙◌}
 use mathlib.Core.Bool.{Bool, false}
-use mathlib.Core.List.{List, [], ◌∷◌, ◌++◌}
-use Prim.Native.Nat.{ℕ, ◌+◌, ◌-◌, ◌≤◌}
+use mathlib.Core.List.{List, [], ◌∷◌, ◌++◌, append_assoc, append-nil}
+use Prim.Native.Nat.{ℕ}
 use native.Mathlib.Omega.{arith}
-use lib.ListN.{length, take, drop, replicate}
-use lib.Seq.{take_all, take-add}
+use lib.ListN.{length, take, replicate}
 use Rattle.answer.specs.Answer.{done}
 use Rattle.octets.specs.Octets.{written}
 use Rattle.rc4.specs.declared.Rc4.{Rc4}
@@ -14,7 +13,6 @@ use Rattle.mppe_keys.specs.declared.Strength.{Strength}
 use Rattle.mppe_keys.specs.declared.Mode.{Mode}
 use Rattle.mppe_keys.specs.Keys.{mode_if}
 use Rattle.mppe.specs.declared.Link.{Link}
-use Rattle.mppe.specs.declared.Outcome.{Outcome}
 use Rattle.mppe.specs.Link.{longest_plain, farthest, Result, open_result}
 use Rattle.mppe_pieces.specs.declared.Walk.{Walk}
 use Rattle.mppe_pieces.specs.declared.Step.{Step}
@@ -23,19 +21,6 @@ use Rattle.mppe_pieces.specs.Pieces.{joined, feed_all, walked}
 use Rattle.mppe_pieces.proofs.Laws.{pieces, feed_more, joined_more}
 use Rattle.bench.specs.Copied.{copied, strength_of, link_at}
 use Rattle.bench.specs.Cut.{Cut}
-
--- the number and the octets of an answer, the octets copied into a buffer
-pub handed : {A : Type 0} (number : A → ℕ) (octets : A → List ℕ) {given said : A} {exit : List ℕ} (out : List ℕ) → given ≡ said
-    → exit ≡ written (take (length out) (octets given)) out → (number given ≡ number said) × (exit ≡ copied (octets said) out)
-unfolding copied
-handed number octets out e w = (ap number e, w ∙ ap (λ d. copied (octets d) out) e)
-
--- a link call with a record that equals another
-pub linked : (call : Link → List ℕ → List ℕ → Result) {given said : Link} {made : Outcome} {exit : List ℕ} (text out : List ℕ)
-    → given ≡ said → (made ≡ (call given text out).outcome) × (exit ≡ (call given text out).buffer)
-    → (made.answer ≡ (call said text out).outcome.answer) × (exit ≡ (call said text out).buffer)
-linked call text out e w =
-    (ap (λ o. o.answer) w.0 ∙ ap (λ l. (call l text out).outcome.answer) e, w.1 ∙ ap (λ l. (call l text out).buffer) e)
 
 -- a record put together from a strength, a mode, two keys copied over zeros, and a box
 pub put_together : {s : Strength} {mode : Mode} {first second : List ℕ} {state : Rc4} (bits40 stateful : Bool) (start session : List ℕ) (count : ℕ)
@@ -46,25 +31,29 @@ pub put_together : {s : Strength} {mode : Mode} {first second : List ℕ} {state
 unfolding link_at copied
 put_together bits40 stateful start session count es em e f eb = rw (es, em, e, f, eb)
 
--- a text fed in pieces: none, one piece more, and all
-pub cut_none : (first : Walk) (out text : List ℕ) → Cut first out (take 0 text) first out
-cut_none first out text = record { pieces = []; whole = unfold joined in refl; left = unfold feed_all in refl }
+-- a text being fed in pieces: what is left of it
+pub record Cutting (first : Walk) (out text rest : List ℕ) (walk : Walk) (out' : List ℕ) : Type 0 where
+  pub pieces : List (List ℕ)
+  pub whole : joined pieces ++ rest ≡ text
+  pub left : feed_all longest_plain farthest first out pieces ≡ record { walk = walk; buffer = out' }
 
-pub cut_more : {first walk : Walk} {out₀ out out' : List ℕ} {fed : Step} (text : List ℕ) (n m : ℕ) → Cut first out₀ (take n text) walk out
-    → (fed ≡ (feed_result longest_plain farthest walk (take (n + m - n) (drop n text)) out).step)
-    × (out' ≡ (feed_result longest_plain farthest walk (take (n + m - n) (drop n text)) out).buffer)
-    → Cut first out₀ (take (n + m) text) fed.walk out'
-cut_more {first} {walk} {out₀} {out} text n m cut (es, eo) =
-    let p : List ℕ = take (n + m - n) (drop n text) in
-    let same : n + m - n ≡ m = omega arith in
+-- none, one piece more, and all
+pub cut_none : {rest : List ℕ} (first : Walk) (out text : List ℕ) → rest ≡ text → Cutting first out text rest first out
+cut_none first out text e = record { pieces = []; whole = unfold joined in e; left = unfold feed_all in refl }
+
+pub cut_more : {first walk : Walk} {out₀ out out' text rest : List ℕ} {fed : Step} (p rest' : List ℕ) → Cutting first out₀ text rest walk out
+    → rest ≡ p ++ rest' → (fed ≡ (feed_result longest_plain farthest walk p out).step) × (out' ≡ (feed_result longest_plain farthest walk p out).buffer)
+    → Cutting first out₀ text rest' fed.walk out'
+cut_more {first} {walk} {out₀} {out} p rest' cut e (es, eo) =
     record {
       pieces = cut.pieces ++ p ∷ [];
-      whole = joined_more cut.pieces p ∙ rw (cut.whole, same) (sym (take-add n m text));
+      whole = rw (joined_more cut.pieces p, append_assoc) (rw e at cut.whole);
       left = feed_more longest_plain farthest first out₀ cut.pieces p _ cut.left ∙ rw (es, eo);
     }
 
-pub cut_all : {first last : Walk} {out out' : List ℕ} (text : List ℕ) (n : ℕ) → length text ≤ n → Cut first out (take n text) last out' → Cut first out text last out'
-cut_all text n all cut = record { pieces = cut.pieces; whole = cut.whole ∙ take_all n text all; left = cut.left }
+pub cut_all : {first last : Walk} {out out' text rest : List ℕ} → Cutting first out text rest last out' → length rest ≡ 0 → Cut first out text last out'
+cut_all {rest = []} cut none = record { pieces = cut.pieces; whole = sym (append-nil (joined cut.pieces)) ∙ cut.whole; left = cut.left }
+cut_all {rest = x ∷ rest} cut none = absurd (omega (arith, none))
 
 -- a walk that ends well has opened what one call opens
 run_is : {begun ended : Step} {last : Walk} {out' : List ℕ} (l : Link) (four out : List ℕ) (total lent : ℕ) (ps : List (List ℕ))

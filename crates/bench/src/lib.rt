@@ -1,104 +1,99 @@
 // What the benchmark calls from C: digests, ciphers, keys and packets over numbers and octet slices. A result is cut to the room lent.
 #![tactic(auto)]
 
-ghost use Rattle.std.specs.Prelude.{◌≡◌, ◌++◌, ◌≤◌};
-ghost use Rattle.answer.specs.Answer.{done};
+ghost use Rattle.std.specs.Prelude.{◌≡◌, ◌++◌, ◌≤◌, replicate};
+ghost use Rattle.answer.specs.Answer.{done, number_of, value_of};
 ghost use Rattle.md4.specs.Md4.{md4_answer};
 ghost use Rattle.sha_1.specs.Sha1.{sha1_answer};
 ghost use Rattle.sha256.specs.Sha256.{sha256_answer};
 ghost use Rattle.sha256.specs.Hmac.{hmac_answer};
 ghost use Rattle.des.specs.Des.{encrypt_answer};
-ghost use Rattle.rc4.specs.Answers.{apply_code, apply_out};
+ghost use Rattle.rc4.specs.Answers.{apply_answer, apply_out};
 ghost use Rattle.mppe_keys.specs.Answers.{key_changes_answer};
 ghost use Rattle.mppe_keys.specs.declared.Strength.TheVariants.{Bits128};
 ghost use Rattle.mppe.specs.Link.{longest_plain, farthest, seal_result, open_result};
 ghost use Rattle.bench.specs.Copied.{copied, strength_of, link_at};
 ghost use Rattle.bench.specs.Cut.{Cut};
 
+use answer::Refusal;
 use mppe::Link;
 use mppe_keys::{Strength, mode_if};
 use mppe_pieces::Walk;
 use rc4::Rc4;
 
+// Hands over an answer's octets, zeros where it is refused, and its number.
+#[tactic(auto, unfolding(crate::specs::Copied::copied))]
+fn handed<const N: usize>(given: Result<[u8; N], Refusal>, out: &mut [u8]) -> u8
+    ensures { (result ≡ number_of given.entry) × (out.new ≡ copied (value_of (replicate N 0) given.entry) out.old) }
+{
+    octets::copy(&given.unwrap_or([0; N]), out);
+    answer::number_of(&given)
+}
+
 // MD4 of a text.
 #[unsafe(no_mangle)]
 pub extern "C" fn bench_md4(text: &[u8], out: &mut [u8]) -> u8
-    ensures { (result ≡ (md4_answer text.now).answer)
-        × (out.new ≡ copied (md4_answer text.now).octets out.old) }
+    ensures { (result ≡ number_of (md4_answer text.now))
+        × (out.new ≡ copied (value_of (replicate 16 0) (md4_answer text.now)) out.old) }
 {
-    let d = md4::md4(text);
-    let digest = d.octets;
-    octets::copy(&digest, out);
-    d.answer
+    handed(md4::md4(text), out)
 }
 
 // SHA-1 of a text.
 #[unsafe(no_mangle)]
 pub extern "C" fn bench_sha1(text: &[u8], out: &mut [u8]) -> u8
-    ensures { (result ≡ (sha1_answer text.now).answer)
-        × (out.new ≡ copied (sha1_answer text.now).octets out.old) }
+    ensures { (result ≡ number_of (sha1_answer text.now))
+        × (out.new ≡ copied (value_of (replicate 20 0) (sha1_answer text.now)) out.old) }
 {
-    let d = sha_1::sha1(text);
-    let digest = d.octets;
-    octets::copy(&digest, out);
-    d.answer
+    handed(sha_1::sha1(text), out)
 }
 
 // SHA-256 of a text.
 #[unsafe(no_mangle)]
 pub extern "C" fn bench_sha256(text: &[u8], out: &mut [u8]) -> u8
-    ensures { (result ≡ (sha256_answer text.now).answer)
-        × (out.new ≡ copied (sha256_answer text.now).octets out.old) }
+    ensures { (result ≡ number_of (sha256_answer text.now))
+        × (out.new ≡ copied (value_of (replicate 32 0) (sha256_answer text.now)) out.old) }
 {
-    let d = sha256::sha256(text);
-    let digest = d.octets;
-    octets::copy(&digest, out);
-    d.answer
+    handed(sha256::sha256(text), out)
 }
 
 // HMAC-SHA256 of a key and a text.
 #[unsafe(no_mangle)]
 pub extern "C" fn bench_hmac_sha256(key: &[u8], text: &[u8], out: &mut [u8]) -> u8
-    ensures { (result ≡ (hmac_answer key.now text.now).answer)
-        × (out.new ≡ copied (hmac_answer key.now text.now).octets out.old) }
+    ensures { (result ≡ number_of (hmac_answer key.now text.now))
+        × (out.new ≡ copied (value_of (replicate 32 0) (hmac_answer key.now text.now)) out.old) }
 {
-    let d = sha256::hmac_sha256(key, text);
-    let digest = d.octets;
-    octets::copy(&digest, out);
-    d.answer
+    handed(sha256::hmac_sha256(key, text), out)
 }
 
 // DES of a block.
 #[unsafe(no_mangle)]
 pub extern "C" fn bench_des(key: &[u8], block: &[u8], out: &mut [u8]) -> u8
-    ensures { (result ≡ (encrypt_answer key.now block.now).answer)
-        × (out.new ≡ copied (encrypt_answer key.now block.now).octets out.old) }
+    ensures { (result ≡ number_of (encrypt_answer key.now block.now))
+        × (out.new ≡ copied (value_of (replicate 8 0) (encrypt_answer key.now block.now)) out.old) }
 {
-    let b = des::encrypt(key, block);
-    let enciphered = b.octets;
-    octets::copy(&enciphered, out);
-    b.answer
+    handed(des::encrypt(key, block), out)
 }
 
 // RC4 of a text under a fresh key.
 #[unsafe(no_mangle)]
 pub extern "C" fn bench_rc4(key: &[u8], text: &[u8], out: &mut [u8]) -> u8
-    ensures { (result ≡ apply_code key.now text.now out.old)
+    ensures { (result ≡ number_of (apply_answer key.now text.now out.old))
         × (out.new ≡ apply_out key.now text.now out.old) }
 {
-    rc4::apply(key, text, out)
+    answer::number_of(&rc4::apply(key, text, out))
 }
 
 // A session key of 128 bits after n key changes.
 #[unsafe(no_mangle)]
 pub extern "C" fn bench_key_changes(start: &[u8], session: &[u8], n: usize, out: &mut [u8]) -> u8
-    ensures { (result ≡ (key_changes_answer Bits128 start.now session.now n).answer)
-        × (out.new ≡ copied (key_changes_answer Bits128 start.now session.now n).octets out.old) }
+    ensures { (result ≡ number_of (key_changes_answer Bits128 start.now session.now n))
+        × (out.new ≡ copied (value_of (replicate 16 0) (key_changes_answer Bits128 start.now session.now n)) out.old) }
 {
-    let k = mppe_keys::key_changes(Strength::Bits128, start, session, n);
-    let key = k.octets;
-    octets::copy(&key, out);
-    k.answer
+    handed(
+        mppe_keys::key_changes(Strength::Bits128, start, session, n),
+        out,
+    )
 }
 
 // A plain packet sealed with a link of 40 bits, or of 128.
@@ -118,8 +113,7 @@ pub extern "C" fn bench_seal(
         plain.now out.old).buffer) }
 {
     let link = link_at(bits40, stateful, start, session, count);
-    let made = link.seal(plain, out);
-    made.answer
+    link.seal(plain, out).answer
 }
 
 // A sealed packet opened with a link of 40 bits, or of 128.
@@ -139,8 +133,7 @@ pub extern "C" fn bench_open(
         packet.now out.old).buffer) }
 {
     let link = link_at(bits40, stateful, start, session, count);
-    let made = link.open(packet, out);
-    made.answer
+    link.open(packet, out).answer
 }
 
 // A sealed packet opened in pieces of some octets, the last one shorter where they do not divide the data.
@@ -165,10 +158,8 @@ pub extern "C" fn bench_pieces(
     }
     let link = link_at(bits40, stateful, start, session, count);
     let begun = Walk::begin(link, front, text.len(), out.len());
-    let first = begun.walk;
-    let last = feed_all(first, step, text, out);
-    let ended = last.end();
-    ended.answer
+    let last = feed_all(begun.walk, step, text, out);
+    last.end().answer
 }
 
 // Feeds a text in pieces of some octets.
@@ -177,22 +168,10 @@ fn feed_all(first: Walk, step: usize, text: &[u8], out: &mut [u8]) -> Walk
     ensures { Cut first out.old text.now result out.new }
 {
     let mut walk = first;
-    let mut n = 0;
-    while n < text.len() {
-        let m = least(step, text.len() - n);
-        let fed = walk.feed(&text[n..n + m], out);
-        walk = fed.walk;
-        n += m;
+    for piece in text.chunks(step) {
+        walk = walk.feed(piece, out).walk;
     }
     walk
-}
-
-// The smaller of two numbers.
-fn least(a: usize, b: usize) -> usize
-    requires { (1 ≤ a) × (1 ≤ b) }
-    ensures { (1 ≤ result) × (result ≤ b) }
-{
-    if a < b { a } else { b }
 }
 
 // A link record of its parts, each key cut to 16 places or with zeros behind it; its box is 0 to 255 in order, and it does not wait.

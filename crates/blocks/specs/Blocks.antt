@@ -3,7 +3,8 @@
 use Rattle.std.specs.Prelude.{List, [], ◌∷◌, ◌++◌, ℕ, zero, suc, ◌+◌, ◌*◌, ◌-◌, ◌/◌, ◌%◌, ltb, length, take, drop, replicate}
 use Rattle.answer.specs.Answer.{pick}
 use Rattle.octets.specs.declared.Order.{Order}
-use Rattle.octets.specs.Octets.{octets_of, word_be}
+use Rattle.octets.specs.declared.Order.TheVariants.{HighestFirst, LowestFirst}
+use Rattle.octets.specs.Octets.{octets_of, word_be, word_le}
 
 -- block n of a message, counted from 0
 abbrev pub block : List ℕ → ℕ → List ℕ
@@ -21,6 +22,15 @@ padding order n = padded order n (8 * n)
 unfoldable pub schedule : (List ℕ → ℕ → ℕ) → ℕ → List ℕ
 schedule next zero = []
 schedule next (suc t) = schedule next t ++ next (schedule next t) t ∷ []
+
+-- the word of 32 bits whose octets are those at i to i + 3 of a block, in the order named
+abbrev pub word_in : Order → List ℕ → ℕ → ℕ
+word_in HighestFirst block i = word_be block i
+word_in LowestFirst block i = word_le block i
+
+-- the first n words of a block
+abbrev pub words : Order → List ℕ → ℕ → List ℕ
+words order block n = schedule (λ w t. word_in order block (4 * t)) n
 
 -- word t of SHA's schedules, from the words before it: the first 16 are the block's, the others what `late` says
 unfoldable pub next_word : (late : List ℕ → ℕ → ℕ) (block w : List ℕ) (t : ℕ) → ℕ

@@ -1,7 +1,7 @@
 -- The laws of sums, of padding and of a run over blocks, over any compression function.
 use Rattle.std.specs.Prelude.{◌≡◌, get_or, take, drop, set}
 use Rattle.std.proofs.Math.Path.{refl}
-use Rattle.std.proofs.Common.{sym, subst, ◌∙◌, add-suc, add_assoc, add-one, length-drop, take-append-drop, length-take-le, take-suc-set, get_or-take, lt-ltb, le-ltb}
+use Rattle.std.proofs.Common.{sym, subst, ◌∙◌, add-suc, add_assoc, add-one, ltb, Ok, length-drop, take-append-drop, length-take-le, take-suc-set, get_or-take, lt-ltb, le-ltb}
 use mathlib.Core.List.{List, [], ◌∷◌, ◌++◌, append_assoc}
 use Prim.Native.Nat.{ℕ, zero, suc, ◌+◌, ◌*◌, ◌-◌, ◌/◌, ◌%◌, ◌≤◌, ◌<◌}
 use Rattle.std.proofs.Math.Nat.{add-zero, zero-add}
@@ -9,15 +9,31 @@ use native.Mathlib.Omega.{arith}
 use Rattle.std.proofs.Math.ListN.{length, length-append}
 use Rattle.std.proofs.lemmas.List.{take-append-le, drop-append-le, get_or_at}
 use Rattle.std.proofs.Math.Seq.{drop-drop, drop-append_seam, take-append_seam, take_all}
-use Rattle.octets.specs.Octets.{word_be}
-use Rattle.octets.specs.Words.{◌⊞◌}
+use Rattle.answer.specs.Answer.{size, first_of, result_of}
+use Rattle.answer.specs.Laws.{ok_only}
+use Rattle.std.specs.Int.{w32, rotate_left, rotate_right}
+use Rattle.std.specs.Simd.{first_chunks}
+use Rattle.octets.specs.Octets.{word_be, longest_text}
+use Rattle.octets.specs.Words.{◌⊞◌, rotl, rotr}
 use Rattle.octets.specs.declared.Order.{Order}
-use Rattle.blocks.specs.Blocks.{schedule, next_word, rounds, tail_of, block, padding, padded, ending, after, absorbed, hashed}
-use Rattle.blocks.specs.Inner.{HoldsTail, closed}
+use Rattle.octets.specs.declared.Order.TheVariants.{HighestFirst}
+use Rattle.blocks.specs.Blocks.{schedule, next_word, words, word_in, rounds, tail_of, block, padding, padded, ending, after, absorbed, hashed}
+use Rattle.blocks.specs.Inner.{HoldsTail, closed, closed_answer}
 
 -- two words are added in either order
 pub add_swap : (a x y : ℕ) → a ⊞ x ⊞ y ≡ a ⊞ y ⊞ x
 add_swap a x y = omega arith
+
+-- rotations by some places, not all, are the library's
+pub rotated_left : (n x : ℕ) → 0 < n → n < 32 → rotate_left w32 x n ≡ rotl n x
+rotated_left n x low high =
+    let whole : (32 - n % 32) % 32 ≡ 32 - n % 32 = omega arith in
+    rw whole
+
+pub rotated_right : (n x : ℕ) → 0 < n → n < 32 → rotate_right w32 x n ≡ rotr n x
+rotated_right n x low high =
+    let whole : (32 - n % 32) % 32 ≡ 32 - n % 32 = omega arith in
+    rw whole
 
 -- a schedule of n words has n, begins with each shorter one, and has each word as it is made from those before it
 pub schedule_length : (next : List ℕ → ℕ → ℕ) (n : ℕ) → length (schedule next n) ≡ n
@@ -38,6 +54,13 @@ schedule_word next t n =
     sym (get_or-take (suc t) (schedule next (suc t + n)) t 0 (omega arith))
     ∙ rw (schedule_front next (suc t) n) (get_or_at (schedule next t) (next (schedule next t) t) [] 0 t (schedule_length next t))
 
+-- word i of a block's words
+pub words_at : {w : List ℕ} (order : Order) (block : List ℕ) (n i : ℕ) → w ≡ words order block n → i < n → get_or w i 0 ≡ word_in order block (4 * i)
+words_at order block n i e h =
+    let next = λ (w : List ℕ) (t : ℕ). word_in order block (4 * t) in
+    let all : suc i + (n - suc i) ≡ n = omega arith in
+    rw e (rw all at (schedule_word next i (n - suc i)))
+
 -- one word more of a schedule
 pub word_more : {x : ℕ} (next : List ℕ → ℕ → ℕ) (w : List ℕ) (t : ℕ) → take t w ≡ schedule next t → x ≡ next (take t w) t → t < length w
     → take (t + 1) (set w t x) ≡ schedule next (t + 1)
@@ -52,6 +75,22 @@ early late block w t ex h = rw (ex, lt-ltb t 16 h)
 pub later : {x : ℕ} (late : List ℕ → ℕ → ℕ) (block w : List ℕ) (t : ℕ) → x ≡ late w t → 16 ≤ t → x ≡ next_word late block w t
 unfolding next_word
 later late block w t ex h = rw (ex, le-ltb t 16 h)
+
+-- a message cut into blocks has each at its number
+chunk_at : (k i : ℕ) (m d : List ℕ) → i < k → get_or (first_chunks 64 k m) i d ≡ block m i
+chunk_at zero i m d h = absurd (omega arith)
+chunk_at (suc k) zero m d h = refl
+chunk_at (suc k) (suc i) m d h =
+    let place : 64 + 64 * i ≡ 64 * suc i = omega arith in
+    rw (chunk_at k i (drop 64 m) d (omega arith), drop-drop, place)
+
+-- the first sixteen words of SHA's schedules are the block's
+pub early_words : (late : List ℕ → ℕ → ℕ) (block : List ℕ) (n : ℕ) → n ≤ 16 → schedule (next_word late block) n ≡ words HighestFirst block n
+unfolding schedule next_word
+early_words late block zero h = refl
+early_words late block (suc n) h =
+    let first : n < 16 = omega arith in
+    rw (early_words late block n (omega arith), lt-ltb n 16 first)
 
 module _ {S : Type 0} (round : ℕ → S → S) where
   -- a loop over rounds begins, and goes on by one
@@ -95,12 +134,17 @@ module _ {S : Type 0} (f : S → List ℕ → S) where
   unfolding after
   after_none s m = refl
 
-  pub after_more : {h h' : S} (s : S) (m : List ℕ) (i : ℕ) → h ≡ after f s m i → h' ≡ f h (take (64 * i + 64 - 64 * i) (drop (64 * i) m))
-      → h' ≡ after f s m (i + 1)
+  pub after_more : {h h' : S} (s : S) (m : List ℕ) (i : ℕ) → h ≡ after f s m i → h' ≡ f h (block m i) → h' ≡ after f s m (i + 1)
   unfolding after
-  after_more s m i e e' =
-      let size : 64 * i + 64 - 64 * i ≡ 64 = omega arith in
-      rw (e', e, size, add-one)
+  after_more s m i e e' = rw (e', e, add-one)
+
+  -- the same in a loop over the blocks that the message is cut into
+  pub after_chunk : {h h' : S} {whole : List (List ℕ)} (s : S) (m d : List ℕ) (i : ℕ) → whole ≡ first_chunks 64 (length m / 64) m → i < length whole
+      → length whole ≡ length m / 64 → h ≡ after f s m i → h' ≡ f h (get_or whole i d) → h' ≡ after f s m (i + 1)
+  after_chunk s m d i e below long eh eh' =
+      let lt : i < length m / 64 = omega arith in
+      let here = chunk_at (length m / 64) i m d lt in
+      after_more s m i eh (eh' ∙ rw (e, here))
 
   -- j blocks, and then n of what is left
   after_add : (s : S) (m : List ℕ) (j n : ℕ) → after f s m (j + n) ≡ after f (after f s m j) (drop (64 * j) m) n
@@ -165,3 +209,12 @@ module _ {S : Type 0} (f : S → List ℕ → S) where
   pub closed_alone : (order : Order) (s : S) (m : List ℕ) → closed f order s 0 m ≡ hashed f order s m
   unfolding closed hashed
   closed_alone order s m = rw zero-add
+
+  -- the digest of a text: what is answered where the last state is
+  pub digested : {X : Type 0} {h i : S} {o : X} (order : Order) (initial : S) (octets : S → X) (m : List ℕ) → i ≡ initial
+      → Ok h ≡ closed_answer f order i 0 m → o ≡ octets h
+      → Ok o ≡ result_of (first_of ((size, ltb longest_text (length m)) ∷ [])) (octets (hashed f order initial m))
+  unfolding closed_answer
+  digested order initial octets m ei eh eo =
+      let (none, same) = ok_only _ _ (sym eh) in
+      rw (none, eo, ← same, ei, closed_alone order initial m)

@@ -1,6 +1,6 @@
 -- Definitions that the contracts of the digests cite: what a reader must believe.
 pub mod Blocks
--- What only private functions promise.
+-- What the code promises beyond them.
 pub mod Inner
 -- Laws, of runs over blocks and of the last blocks.
 pub mod Laws

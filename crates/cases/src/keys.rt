@@ -1,34 +1,47 @@
 // Cases of keys.
 use crate::texts::state_fields;
-use crate::{Numbers, low, tell};
-use mppe_keys::{Direction, Key, Role, Strength};
+use crate::{Case, low, tell_given, tell_octets};
+use mppe_keys::{Direction, Role, Strength};
 use std::io;
 use std::io::Write;
 
 // The calls 48 to 58.
-pub fn call<W: Write>(writer: &mut W, n: Numbers, a: &[u8], b: &[u8]) -> io::Result<()> {
-    let call = n.call;
-    match call {
-        48 => tell_key(writer, mppe_keys::master_key(a, b)),
-        49 => tell_key(
+pub fn call<W: Write>(writer: &mut W, case: Case<'_>) -> io::Result<()> {
+    let Case { a, b, .. } = case;
+    let strength = strength(case.x);
+    let role = role(case.y);
+    let changes = case.y as usize;
+    match case.call {
+        48 => tell_given(writer, mppe_keys::master_key(a, b)),
+        49 => tell_given(
             writer,
-            mppe_keys::start_key(strength(n.x), role(n.y), direction(n.z), a),
+            mppe_keys::start_key(strength, role, direction(case.z), a),
         ),
-        50 => tell_key(writer, mppe_keys::new_key(strength(n.x), a, b)),
-        51 => tell_key(writer, mppe_keys::initial_session_key(strength(n.x), a)),
-        52 => tell_key(writer, mppe_keys::reduce(strength(n.x), a)),
-        53 => tell_key(writer, mppe_keys::key_change(strength(n.x), a, b)),
-        54 => tell_key(writer, mppe_keys::key_changes(strength(n.x), a, b, n.y)),
-        55 => tell_base_key(writer, role(n.y), a, b),
-        56 => tell_placed(writer, strength(n.x), places(a), places(b), n.y),
-        57 => tell_length(writer, strength(n.x)),
-        58 => tell_cipher(writer, strength(n.x), places(a)),
+        50 => tell_given(writer, mppe_keys::new_key(strength, a, b)),
+        51 => tell_given(writer, mppe_keys::initial_session_key(strength, a)),
+        52 => tell_given(writer, mppe_keys::reduce(strength, a)),
+        53 => tell_given(writer, mppe_keys::key_change(strength, a, b)),
+        54 => tell_given(writer, mppe_keys::key_changes(strength, a, b, changes)),
+        // The base key of a send and a receive start key.
+        55 => tell_given(writer, sstp::base_key(role, a, b)),
+        // Key changes over keys in 16 places, how many octets a key has, and the state of RC4 keyed with a key in 16 places: these have no number.
+        56 => tell_octets(
+            writer,
+            0,
+            mppe_keys::placed_key_changes(strength, places(a), places(b), changes),
+        ),
+        57 => tell_octets(writer, 0, [low(mppe_keys::key_length(strength))]),
+        58 => tell_octets(
+            writer,
+            0,
+            state_fields(mppe_keys::placed_cipher(strength, places(a))),
+        ),
         _ => Ok(()),
     }
 }
 
 // Strength n: 0 is 40 bits, 1 is 56.
-pub fn strength(n: usize) -> Strength {
+pub fn strength(n: u16) -> Strength {
     match n {
         0 => Strength::Bits40,
         1 => Strength::Bits56,
@@ -43,55 +56,16 @@ fn places(a: &[u8]) -> [u8; 16] {
     key
 }
 
-// A key in its 16 places.
-fn tell_key<W: Write>(writer: &mut W, key: Key) -> io::Result<()> {
-    let octets = key.octets;
-    tell(writer, key.answer, &octets, &[])
-}
-
-// The base key of a send and a receive start key.
-fn tell_base_key<W: Write>(writer: &mut W, role: Role, a: &[u8], b: &[u8]) -> io::Result<()> {
-    let key = sstp::base_key(role, a, b);
-    let octets = key.octets;
-    tell(writer, key.answer, &octets, &[])
-}
-
-// Key changes over keys in 16 places, which have no number.
-fn tell_placed<W: Write>(
-    writer: &mut W,
-    strength: Strength,
-    start: [u8; 16],
-    session: [u8; 16],
-    changes: usize,
-) -> io::Result<()> {
-    let key = mppe_keys::placed_key_changes(strength, start, session, changes);
-    tell(writer, 0, &key, &[])
-}
-
-// How many octets a key has.
-fn tell_length<W: Write>(writer: &mut W, strength: Strength) -> io::Result<()> {
-    let n = mppe_keys::key_length(strength);
-    tell(writer, 0, &[low(n)], &[])
-}
-
-// The state of RC4 keyed with a key in 16 places.
-fn tell_cipher<W: Write>(writer: &mut W, strength: Strength, session: [u8; 16]) -> io::Result<()> {
-    let fields = state_fields(mppe_keys::placed_cipher(strength, session));
-    tell(writer, 0, &fields, &[])
-}
-
 // Role n: 0 is the client.
-fn role(n: usize) -> Role {
-    if n == 0 {
-        return Role::Client;
-    }
-    Role::Server
+fn role(n: u16) -> Role {
+    if n == 0 { Role::Client } else { Role::Server }
 }
 
 // Direction n: 0 is sending.
-fn direction(n: usize) -> Direction {
+fn direction(n: u16) -> Direction {
     if n == 0 {
-        return Direction::Send;
+        Direction::Send
+    } else {
+        Direction::Receive
     }
-    Direction::Receive
 }

@@ -11,8 +11,9 @@ mod logins;
 mod packets;
 mod texts;
 
-ghost use Rattle.std.specs.Prelude.{◌<◌, ◌≤◌, length, IfOk};
+ghost use Rattle.std.specs.Prelude.{◌≤◌, length, IfOk};
 
+use answer::Refusal;
 use std::io;
 use std::io::{BufWriter, Read, Write};
 
@@ -22,13 +23,16 @@ const HEAD: usize = 19;
 // The most octets of an input or of the lent buffer.
 const ROOM: usize = 65536;
 
-// What a case says beside its octets.
+// A case: its call's number, three numbers and three inputs.
 #[derive(Clone, Copy)]
-pub struct Numbers {
+pub struct Case<'a> {
     pub call: u8,
-    pub x: usize,
-    pub y: usize,
-    pub z: usize,
+    pub x: u16,
+    pub y: u16,
+    pub z: u16,
+    pub a: &'a [u8],
+    pub b: &'a [u8],
+    pub c: &'a [u8],
 }
 
 // From standard input to standard output.
@@ -47,21 +51,86 @@ fn run_all<R: Read, W: Write>(reader: &mut R, writer: &mut W) -> io::Result<()> 
     Ok(())
 }
 
+// Reads one case, runs it, and sends its answer off; false where there is none.
+fn run_case<R: Read, W: Write>(reader: &mut R, writer: &mut W) -> io::Result<bool> {
+    let mut head = [0u8; HEAD];
+    if read_full(reader, &mut head)? < HEAD {
+        return Ok(false);
+    }
+    let mut a = [0u8; ROOM];
+    let mut b = [0u8; ROOM];
+    let mut c = [0u8; ROOM];
+    let mut lent = [0u8; ROOM];
+    let in_a = read_part(reader, [head[7], head[8], head[9]], &mut a)?;
+    let in_b = read_part(reader, [head[10], head[11], head[12]], &mut b)?;
+    let in_c = read_part(reader, [head[13], head[14], head[15]], &mut c)?;
+    let in_lent = read_part(reader, [head[16], head[17], head[18]], &mut lent)?;
+    let case = Case {
+        call: head[0],
+        x: u16::from_be_bytes([head[1], head[2]]),
+        y: u16::from_be_bytes([head[3], head[4]]),
+        z: u16::from_be_bytes([head[5], head[6]]),
+        a: &a[..in_a],
+        b: &b[..in_b],
+        c: &c[..in_c],
+    };
+    run_call(writer, case, &mut lent[..in_lent])?;
+    writer.flush()?;
+    Ok(true)
+}
+
+// Makes the call of a case. A number that is no call's gets no answer.
+fn run_call<W: Write>(writer: &mut W, case: Case<'_>, lent: &mut [u8]) -> io::Result<()> {
+    match case.call / 16 {
+        0 => texts::call(writer, case, lent),
+        1 => logins::call(writer, case),
+        2 => packets::call(writer, case, lent),
+        3 => keys::call(writer, case),
+        4 => links::call(writer, case, lent),
+        _ => Ok(()),
+    }
+}
+
 // Writes an answer.
 pub fn tell<W: Write>(writer: &mut W, number: u8, fields: &[u8], lent: &[u8]) -> io::Result<()> {
     let f = fields.len();
     let n = lent.len();
-    let head = [
+    writer.write_all(&[
         low(f / 256),
         low(f),
         low(n / 65536),
         low(n / 256),
         low(n),
         number,
-    ];
-    writer.write_all(&head)?;
+    ])?;
     writer.write_all(fields)?;
     writer.write_all(lent)
+}
+
+// Writes the answer of a call that gives a number and octets.
+pub fn tell_octets<W: Write, const N: usize>(
+    writer: &mut W,
+    number: u8,
+    octets: [u8; N],
+) -> io::Result<()> {
+    tell(writer, number, &octets, &[])
+}
+
+// Writes the answer of a call that gives octets, zeros where it refuses.
+pub fn tell_given<W: Write, const N: usize>(
+    writer: &mut W,
+    given: Result<[u8; N], Refusal>,
+) -> io::Result<()> {
+    tell_octets(writer, answer::number_of(&given), given.unwrap_or([0; N]))
+}
+
+// Writes the answer of a call that writes into the lent buffer.
+pub fn tell_written<W: Write>(
+    writer: &mut W,
+    written: Result<(), Refusal>,
+    lent: &[u8],
+) -> io::Result<()> {
+    tell(writer, answer::number_of(&written), &[], lent)
 }
 
 // The lowest octet of a number.
@@ -69,102 +138,20 @@ pub fn low(n: usize) -> u8 {
     (n % 256) as u8
 }
 
-// Reads one case, runs it, and sends its answer off; false where there is none.
-fn run_case<R: Read, W: Write>(reader: &mut R, writer: &mut W) -> io::Result<bool> {
-    let mut head = [0u8; 19];
-    let n = read_full(reader, &mut head)?;
-    if n < HEAD {
-        return Ok(false);
-    }
-    with_first(reader, writer, head)?;
-    writer.flush()?;
-    Ok(true)
-}
-
-// Goes on with the first input.
-fn with_first<R: Read, W: Write>(reader: &mut R, writer: &mut W, head: [u8; 19]) -> io::Result<()> {
-    let mut space = [0u8; ROOM];
-    let n = read_part(reader, long(head[7], head[8], head[9]), &mut space)?;
-    with_second(reader, writer, head, &space[0..n])
-}
-
-// Goes on with the second.
-fn with_second<R: Read, W: Write>(
-    reader: &mut R,
-    writer: &mut W,
-    head: [u8; 19],
-    a: &[u8],
-) -> io::Result<()> {
-    let mut space = [0u8; ROOM];
-    let n = read_part(reader, long(head[10], head[11], head[12]), &mut space)?;
-    with_third(reader, writer, head, a, &space[0..n])
-}
-
-// Goes on with the third.
-fn with_third<R: Read, W: Write>(
-    reader: &mut R,
-    writer: &mut W,
-    head: [u8; 19],
-    a: &[u8],
-    b: &[u8],
-) -> io::Result<()> {
-    let mut space = [0u8; ROOM];
-    let n = read_part(reader, long(head[13], head[14], head[15]), &mut space)?;
-    with_lent(reader, writer, head, a, b, &space[0..n])
-}
-
-// Goes on with the lent buffer.
-fn with_lent<R: Read, W: Write>(
-    reader: &mut R,
-    writer: &mut W,
-    head: [u8; 19],
-    a: &[u8],
-    b: &[u8],
-    c: &[u8],
-) -> io::Result<()> {
-    let mut space = [0u8; ROOM];
-    let n = read_part(reader, long(head[16], head[17], head[18]), &mut space)?;
-    let numbers = Numbers {
-        call: head[0],
-        x: short(head[1], head[2]),
-        y: short(head[3], head[4]),
-        z: short(head[5], head[6]),
-    };
-    call(writer, numbers, a, b, c, &mut space[0..n])
-}
-
-// Makes the call of a case. A number that is no call's gets no answer.
-fn call<W: Write>(
-    writer: &mut W,
-    n: Numbers,
-    a: &[u8],
-    b: &[u8],
-    c: &[u8],
-    lent: &mut [u8],
-) -> io::Result<()> {
-    let group = n.call / 16;
-    match group {
-        0 => texts::call(writer, n, a, b, c, lent),
-        1 => logins::call(writer, n, a, b, c),
-        2 => packets::call(writer, n, a, b, c, lent),
-        3 => keys::call(writer, n, a, b),
-        4 => links::call(writer, n, a, b, lent),
-        _ => Ok(()),
-    }
-}
-
-// Reads a part of n octets into the front of a buffer, and says how long the part is: 0 where the buffer has no room.
-fn read_part<R: Read>(reader: &mut R, n: usize, space: &mut [u8]) -> io::Result<usize>
+// Reads a part into the front of a buffer, and says how long the part is: 0 where the buffer has no room. Its length stands in three octets.
+fn read_part<R: Read>(reader: &mut R, size: [u8; 3], space: &mut [u8]) -> io::Result<usize>
     ensures { IfOk result (λ k. k ≤ length space.new) }
 {
+    let n = u32::from_be_bytes([0, size[0], size[1], size[2]]) as usize;
     if space.len() < n {
         return Ok(0);
     }
-    read_full(reader, &mut space[0..n])?;
+    read_full(reader, &mut space[..n])?;
     Ok(n)
 }
 
-// Reads until a buffer is full or the input ends, and says how many octets it put into its front.
+// Reads until a buffer is full or the input ends, and says how many octets it put into its front. A turn takes as many as come, so it counts
+// them by hand.
 fn read_full<R: Read>(reader: &mut R, space: &mut [u8]) -> io::Result<usize>
     ensures { IfOk result (λ k. k ≤ length space.new) }
 {
@@ -177,16 +164,4 @@ fn read_full<R: Read>(reader: &mut R, space: &mut [u8]) -> io::Result<usize>
         done += n;
     }
     Ok(done)
-}
-
-// Two octets as a number, highest first.
-fn short(a: u8, b: u8) -> usize
-    ensures { result < 65536 }
-{
-    a as usize * 256 + b as usize
-}
-
-// Three octets as a number, highest first.
-fn long(a: u8, b: u8, c: u8) -> usize {
-    a as usize * 65536 + short(b, c)
 }

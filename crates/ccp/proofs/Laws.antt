@@ -1,8 +1,10 @@
 -- Laws of the option, which follow from the definitions alone.
-use Rattle.std.specs.Prelude.{◌≡◌, refl, Bool, true, false, not, List, [], ◌∷◌, ◌⊎◌, ℕ, zero, suc, ◌≤◌, eqb, take, get_or}
-use Rattle.std.proofs.Common.{ap, ◌∙◌, inl, inr, suc-ne-zero, arith, eqb-true}
+use Rattle.std.specs.Prelude.{◌≡◌, refl, Bool, true, false, not, List, [], ◌∷◌, ◌⊎◌, ℕ, zero, suc, ◌≤◌, eqb, take, get_or, Result, Ok, Err}
+use Rattle.std.proofs.Common.{ap, ◌∙◌, inl, inr, arith, eqb-true}
 use Rattle.std.proofs.lemmas.Bool.{false≢true}
-use Rattle.answer.specs.Answer.{done, shape, strength, pick, wrong, first_of, on_done}
+use Rattle.answer.specs.declared.Refusal.{Refusal}
+use Rattle.answer.specs.Answer.{done, shape, strength, pick, wrong, first_of, on_done, number_of, result_of}
+use Rattle.answer.specs.Laws.{number_first, ok_only, err_only}
 use Rattle.octets.specs.Octets.{pair_at}
 use Rattle.mppe_keys.specs.Keys.{bits_of}
 use Rattle.mppe_keys.specs.declared.Strength.{Strength}
@@ -12,17 +14,16 @@ use Rattle.mppe_keys.specs.declared.Mode.TheVariants.{Stateless, Stateful}
 use Rattle.ccp.specs.declared.Strengths.{Strengths}
 use Rattle.ccp.specs.declared.Offer.{Offer}
 use Rattle.ccp.specs.declared.Choice.{Choice}
-use Rattle.ccp.specs.declared.reset.Reset.{Reset}
-use Rattle.ccp.specs.declared.Reply.TheVariants.{Accept, CounterOffer, Refused}
+use Rattle.ccp.specs.declared.Reply.TheVariants.{Accept, CounterOffer}
 use Rattle.ccp.specs.Option.{option_length, mode_of, strengths_of, word_of, option_octets, none_of, strongest, choice_word}
-use Rattle.ccp.specs.Reset.{reset_request, reset_length, reset_octets, reset_rows, no_reset, reset_code, reset_answer, write_reset_code, write_reset_out}
-use Rattle.ccp.specs.Answers.{read_code, supported_bits, read_answer, write_code, write_out, usable, reply_code, replied_word, chosen, reply_with, reply_answer, reply_code_of, reply_word}
+use Rattle.ccp.specs.Reset.{reset_request, reset_length, reset_octets, reset_rows, reset_code, reset_answer, write_reset_code, write_reset_out}
+use Rattle.ccp.specs.Answers.{read_code, supported_bits, read_answer, write_code, write_out, usable, reply_code, replied_word, chosen, reply_with, reply_answer, reply_word}
 
 -- what is written reads back to the same mode and strengths
 reads_back : (mode : Mode) (bits40 bits56 bits128 : Bool)
-    → ◌≡◌ {A = Offer}
+    → ◌≡◌ {A = Result Offer Refusal}
     (read_answer (option_octets mode (record { bits40 = bits40; bits56 = bits56; bits128 = bits128 })))
-    (record { answer = done; mode = mode; strengths = record { bits40 = bits40; bits56 = bits56; bits128 = bits128 } })
+    (Ok (record { mode = mode; strengths = record { bits40 = bits40; bits56 = bits56; bits128 = bits128 } }))
 unfolding read_answer read_code supported_bits option_octets word_of mode_of strengths_of
 reads_back Stateless true true true = refl
 reads_back Stateless true true false = refl
@@ -42,37 +43,48 @@ reads_back Stateful false false true = refl
 reads_back Stateful false false false = refl
 
 pub written_reads_back : (mode : Mode) (s : Strengths) (out : List ℕ) → write_code out ≡ done
-    → ◌≡◌ {A = Offer} (read_answer (take option_length (write_out mode s out))) (record { answer = done; mode = mode; strengths = s })
+    → ◌≡◌ {A = Result Offer Refusal} (read_answer (take option_length (write_out mode s out))) (Ok (record { mode = mode; strengths = s }))
 unfolding write_out option_octets
 written_reads_back mode s out e = rw e (reads_back mode s.bits40 s.bits56 s.bits128)
 
+-- a reply with a choice, case by case: its word, an accept's, and what either carries
+word_replied : (n : ℕ) (t : Bool) (c : Choice) → reply_word (result_of n (pick t (Accept c) (CounterOffer c))) ≡ on_done n (choice_word c) 0
+word_replied zero true c = refl
+word_replied zero false c = refl
+word_replied (suc n) t c = refl
+
+word_accepted : (n : ℕ) (t : Bool) (word : ℕ) (c choice : Choice) → eqb word (choice_word c) ≡ t
+    → result_of n (pick t (Accept c) (CounterOffer c)) ≡ Ok (Accept choice) → word ≡ choice_word choice
+word_accepted zero true word c choice e h =
+    let same : c ≡ choice = cc in
+    eqb-true word (choice_word c) e ∙ ap choice_word same
+word_accepted zero false word c choice e h = cc
+word_accepted (suc n) t word c choice e h = cc
+
+choice_carried : (n : ℕ) (t : Bool) (c choice : Choice)
+    → (result_of n (pick t (Accept c) (CounterOffer c)) ≡ Ok (Accept choice)) ⊎ (result_of n (pick t (Accept c) (CounterOffer c)) ≡ Ok (CounterOffer choice))
+    → (n ≡ done) × (c ≡ choice)
+choice_carried zero true c choice (inl h) = (refl, cc)
+choice_carried zero true c choice (inr h) = (refl, cc)
+choice_carried zero false c choice (inl h) = (refl, cc)
+choice_carried zero false c choice (inr h) = (refl, cc)
+choice_carried (suc n) t c choice (inl h) = (cc, cc)
+choice_carried (suc n) t c choice (inr h) = (cc, cc)
+
 -- the number of a reply is the first row that applies; its word is that of the choice, and 0 where it is refused
 pub reply_told : (option : List ℕ) (allowed : Strengths) (stateful : Bool)
-    → (reply_code_of (reply_answer option allowed stateful) ≡ reply_code option allowed)
+    → (number_of (reply_answer option allowed stateful) ≡ reply_code option allowed)
     × (reply_word (reply_answer option allowed stateful) ≡ replied_word option allowed stateful)
-unfolding reply_answer reply_with replied_word
-reply_told option allowed stateful = go (reply_code option allowed) (eqb (supported_bits option) (choice_word (chosen option allowed stateful)))
-  where
-    go : (n : ℕ) (t : Bool) → (reply_code_of (on_done n (pick t (Accept (chosen option allowed stateful)) (CounterOffer (chosen option allowed stateful))) (Refused n)) ≡ n)
-        × (reply_word (on_done n (pick t (Accept (chosen option allowed stateful)) (CounterOffer (chosen option allowed stateful))) (Refused n)) ≡ on_done n (choice_word (chosen option allowed stateful)) 0)
-    go zero true = (refl, refl)
-    go zero false = (refl, refl)
-    go (suc n) t = (refl, refl)
+unfolding reply_answer reply_with reply_code replied_word
+reply_told option allowed stateful =
+    (number_first ((shape, not (eqb (read_code option) done)) ∷ (strength, none_of (usable option allowed)) ∷ []) _ refl, word_replied (reply_code option allowed) _ (chosen option allowed stateful))
 
 -- an accept's word is the request's word
-pub accept_word : (option : List ℕ) (allowed : Strengths) (stateful : Bool) (choice : Choice) → reply_answer option allowed stateful ≡ Accept choice
+pub accept_word : (option : List ℕ) (allowed : Strengths) (stateful : Bool) (choice : Choice) → reply_answer option allowed stateful ≡ Ok (Accept choice)
     → supported_bits option ≡ choice_word choice
 unfolding reply_answer reply_with
-accept_word option allowed stateful choice = go (reply_code option allowed) (eqb (supported_bits option) (choice_word (chosen option allowed stateful))) refl
-  where
-    go : (n : ℕ) (t : Bool) → eqb (supported_bits option) (choice_word (chosen option allowed stateful)) ≡ t
-        → on_done n (pick t (Accept (chosen option allowed stateful)) (CounterOffer (chosen option allowed stateful))) (Refused n) ≡ Accept choice
-        → supported_bits option ≡ choice_word choice
-    go zero true e h =
-        let same : chosen option allowed stateful ≡ choice = cc in
-        eqb-true (supported_bits option) (choice_word (chosen option allowed stateful)) e ∙ ap choice_word same
-    go zero false e h = cc
-    go (suc n) t e h = cc
+accept_word option allowed stateful choice =
+    word_accepted (reply_code option allowed) _ (supported_bits option) (chosen option allowed stateful) choice refl
 
 -- whether a strength is among strengths
 abbrev pub has : Strengths → Strength → Bool
@@ -111,21 +123,10 @@ strongest_most s = go s.bits40 s.bits56 s.bits128
 
 -- an accept and a counter-offer carry what was chosen
 carried : (option : List ℕ) (allowed : Strengths) (stateful : Bool) (choice : Choice)
-    → (reply_answer option allowed stateful ≡ Accept choice) ⊎ (reply_answer option allowed stateful ≡ CounterOffer choice)
+    → (reply_answer option allowed stateful ≡ Ok (Accept choice)) ⊎ (reply_answer option allowed stateful ≡ Ok (CounterOffer choice))
     → (reply_code option allowed ≡ done) × (chosen option allowed stateful ≡ choice)
 unfolding reply_answer reply_with
-carried option allowed stateful choice = go (reply_code option allowed) (eqb (supported_bits option) (choice_word (chosen option allowed stateful)))
-  where
-    go : (n : ℕ) (t : Bool)
-        → (on_done n (pick t (Accept (chosen option allowed stateful)) (CounterOffer (chosen option allowed stateful))) (Refused n) ≡ Accept choice)
-        ⊎ (on_done n (pick t (Accept (chosen option allowed stateful)) (CounterOffer (chosen option allowed stateful))) (Refused n) ≡ CounterOffer choice)
-        → (n ≡ done) × (chosen option allowed stateful ≡ choice)
-    go zero true (inl h) = (refl, cc)
-    go zero true (inr h) = (refl, cc)
-    go zero false (inl h) = (refl, cc)
-    go zero false (inr h) = (refl, cc)
-    go (suc n) t (inl h) = (cc, cc)
-    go (suc n) t (inr h) = (cc, cc)
+carried option allowed stateful choice = choice_carried (reply_code option allowed) _ (chosen option allowed stateful) choice
 
 -- no refusal: there is a strength to pick
 any_usable : (option : List ℕ) (allowed : Strengths) → reply_code option allowed ≡ done → none_of (usable option allowed) ≡ false
@@ -140,7 +141,7 @@ any_usable option allowed = go (not (eqb (read_code option) done)) (none_of (usa
 -- the strength of an accept or a counter-offer is offered and allowed, no stronger one is both, and the mode is the one asked for where
 -- the policy allows stateful, and else stateless
 pub best_choice : (option : List ℕ) (allowed : Strengths) (stateful : Bool) (choice : Choice)
-    → (reply_answer option allowed stateful ≡ Accept choice) ⊎ (reply_answer option allowed stateful ≡ CounterOffer choice)
+    → (reply_answer option allowed stateful ≡ Ok (Accept choice)) ⊎ (reply_answer option allowed stateful ≡ Ok (CounterOffer choice))
     → (has (usable option allowed) choice.strength ≡ true)
     × ((x : Strength) → has (usable option allowed) x ≡ true → bits_of x ≤ bits_of choice.strength)
     × (choice.mode ≡ pick stateful (mode_of (supported_bits option)) Stateless)
@@ -151,24 +152,19 @@ best_choice option allowed stateful choice h =
 
 -- a Reset-Request that is written reads back
 pub reset_reads_back : (identifier : ℕ) (out : List ℕ) → write_reset_code out ≡ done
-    → ◌≡◌ {A = Reset} (reset_answer (take reset_length (write_reset_out identifier out))) (record { answer = done; identifier = identifier })
+    → ◌≡◌ {A = Result ℕ Refusal} (reset_answer (take reset_length (write_reset_out identifier out))) (Ok identifier)
 unfolding write_reset_out reset_octets reset_answer reset_code
 reset_reads_back identifier out e = rw e
 
--- what the number of a Reset-Request that is read says of its rows
-pub reset_done : (request : List ℕ) → (reset_answer request).answer ≡ done → first_of (reset_rows request) ≡ done
+-- what the answer to a Reset-Request says of its rows
+pub reset_done : {identifier : ℕ} (request : List ℕ) → reset_answer request ≡ Ok identifier → first_of (reset_rows request) ≡ done
 unfolding reset_answer reset_code
-reset_done request e = go (first_of (reset_rows request)) refl e
-  where
-    go : (code : ℕ) → first_of (reset_rows request) ≡ code → (on_done code (record { answer = done; identifier = get_or request 1 0 }) no_reset).answer ≡ done
-        → first_of (reset_rows request) ≡ done
-    go zero c e = c
-    go (suc n) c e = absurd (suc-ne-zero 0 e)
+reset_done request e = (ok_only (first_of (reset_rows request)) (get_or request 1 0) e).0
 
-pub reset_shape : (request : List ℕ) → ((reset_answer request).answer ≡ done → ⊥) → first_of (reset_rows request) ≡ shape
+pub reset_shape : {refusal : Refusal} (request : List ℕ) → reset_answer request ≡ Err refusal → first_of (reset_rows request) ≡ shape
 unfolding reset_answer reset_code
-reset_shape request h =
-    one (wrong reset_length request) (not (eqb (get_or request 0 0) reset_request)) (not (eqb (pair_at 2 request) reset_length)) (λ z. h (rw z))
+reset_shape request e =
+    one (wrong reset_length request) (not (eqb (get_or request 0 0) reset_request)) (not (eqb (pair_at 2 request) reset_length)) (err_only (first_of (reset_rows request)) (get_or request 1 0) e)
   where
     one : (a b c : Bool) → (first_of ((shape, a) ∷ (shape, b) ∷ (shape, c) ∷ []) ≡ done → ⊥) → first_of ((shape, a) ∷ (shape, b) ∷ (shape, c) ∷ []) ≡ shape
     one true b c h = refl

@@ -1,6 +1,7 @@
 -- What the calls answer (01, "Numbers a call may answer" and "The option").
-use Rattle.std.specs.Prelude.{Bool, not, List, [], ◌∷◌, ℕ, eqb, ltb, length, get_or}
-use Rattle.answer.specs.Answer.{done, shape, room, strength, pick, first_of, on_done, wrong}
+use Rattle.std.specs.Prelude.{Bool, not, List, [], ◌∷◌, ℕ, eqb, ltb, length, get_or, Result, Ok, Err}
+use Rattle.answer.specs.declared.Refusal.{Refusal}
+use Rattle.answer.specs.Answer.{done, shape, room, strength, pick, first_of, on_done, wrong, result_of}
 use Rattle.octets.specs.Octets.{written, word_be}
 use Rattle.mppe_keys.specs.declared.Mode.{Mode}
 use Rattle.mppe_keys.specs.declared.Mode.TheVariants.{Stateless}
@@ -8,7 +9,7 @@ use Rattle.ccp.specs.declared.Strengths.{Strengths}
 use Rattle.ccp.specs.declared.Offer.{Offer}
 use Rattle.ccp.specs.declared.Choice.{Choice}
 use Rattle.ccp.specs.declared.Reply.{Reply}
-use Rattle.ccp.specs.declared.Reply.TheVariants.{Accept, CounterOffer, Refused}
+use Rattle.ccp.specs.declared.Reply.TheVariants.{Accept, CounterOffer}
 use Rattle.ccp.specs.Option.{option_type, option_length, mode_of, strengths_of, option_octets, common, none_of, strongest, choice_word}
 
 -- the number for an option to be read: "Wrong type, length or slice other than six octets: 1"
@@ -24,9 +25,10 @@ read_code option =
 unfoldable pub supported_bits : List ℕ → ℕ
 supported_bits option = on_done (read_code option) (word_be option 2) 0
 
--- a refused option has no bit, so it offers no strength and its mode is that of bit H at 0
-unfoldable pub read_answer : List ℕ → Offer
-read_answer option = record { answer = read_code option; mode = mode_of (supported_bits option); strengths = strengths_of (supported_bits option) }
+-- what an option that is not refused offers
+unfoldable pub read_answer : List ℕ → Result Offer Refusal
+read_answer option =
+    result_of (read_code option) (record { mode = mode_of (supported_bits option); strengths = strengths_of (supported_bits option) })
 
 -- the number for a lent buffer
 abbrev pub write_code : List ℕ → ℕ
@@ -55,22 +57,18 @@ chosen option allowed stateful =
 unfoldable pub reply_with : ℕ → Choice → Reply
 reply_with word choice = pick (eqb word (choice_word choice)) (Accept choice) (CounterOffer choice)
 
-unfoldable pub reply_answer : List ℕ → Strengths → (stateful : Bool) → Reply
-reply_answer option allowed stateful =
-    on_done (reply_code option allowed) (reply_with (supported_bits option) (chosen option allowed stateful)) (Refused (reply_code option allowed))
+unfoldable pub reply_answer : List ℕ → Strengths → (stateful : Bool) → Result Reply Refusal
+reply_answer option allowed stateful = result_of (reply_code option allowed) (reply_with (supported_bits option) (chosen option allowed stateful))
 
 -- the word of a reply: that of the choice, and 0 where it is refused
 unfoldable pub replied_word : List ℕ → Strengths → (stateful : Bool) → ℕ
 replied_word option allowed stateful = on_done (reply_code option allowed) (choice_word (chosen option allowed stateful)) 0
 
--- the paper's number of a reply ..
-abbrev pub reply_code_of : Reply → ℕ
-reply_code_of (Accept choice) = done
-reply_code_of (CounterOffer choice) = done
-reply_code_of (Refused code) = code
+-- the supported bits of a reply, and of a refusal
+abbrev pub word_in : Reply → ℕ
+word_in (Accept choice) = choice_word choice
+word_in (CounterOffer choice) = choice_word choice
 
--- .. and its supported bits
-abbrev pub reply_word : Reply → ℕ
-reply_word (Accept choice) = choice_word choice
-reply_word (CounterOffer choice) = choice_word choice
-reply_word (Refused code) = 0
+abbrev pub reply_word : Result Reply Refusal → ℕ
+reply_word (Ok reply) = word_in reply
+reply_word (Err refusal) = 0

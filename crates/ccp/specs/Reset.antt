@@ -1,8 +1,8 @@
 -- CCP's Reset-Request (RFC 1962, 3.3, in 02's words, M-103): "CCP code 14, length 4, four octets, else 1".
-use Rattle.std.specs.Prelude.{Bool, not, List, [], ◌∷◌, ℕ, eqb, ltb, length, get_or}
-use Rattle.answer.specs.Answer.{done, shape, room, wrong, first_of, on_done}
+use Rattle.std.specs.Prelude.{Bool, not, List, [], ◌∷◌, ℕ, eqb, ltb, length, get_or, Result}
+use Rattle.answer.specs.declared.Refusal.{Refusal}
+use Rattle.answer.specs.Answer.{shape, room, wrong, first_of, on_done, result_of}
 use Rattle.octets.specs.Octets.{big_endian, pair_at, written}
-use Rattle.ccp.specs.declared.reset.Reset.{Reset}
 
 abbrev pub reset_request : ℕ
 reset_request = 14
@@ -25,12 +25,9 @@ reset_rows request =
 unfoldable pub reset_code : List ℕ → ℕ
 reset_code request = first_of (reset_rows request)
 
--- a refused one has identifier 0
-abbrev pub no_reset : Reset
-no_reset = record { answer = shape; identifier = 0 }
-
-unfoldable pub reset_answer : List ℕ → Reset
-reset_answer request = on_done (reset_code request) (record { answer = done; identifier = get_or request 1 0 }) no_reset
+-- the identifier of one that is not refused
+unfoldable pub reset_answer : List ℕ → Result ℕ Refusal
+reset_answer request = result_of (reset_code request) (get_or request 1 0)
 
 -- what is answered to a buffer that it is written into, and the buffer then
 unfoldable pub write_reset_code : List ℕ → ℕ

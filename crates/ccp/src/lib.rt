@@ -1,18 +1,18 @@
 // The MPPE option of CCP (RFC 3078, section 2): read, written and replied to. Its Reset-Request: read and written.
-#![tactic(auto)]
+#![tactic(auto, unfolding(crate::specs::Answers::read_code, crate::specs::Answers::supported_bits, crate::specs::Answers::read_answer, crate::specs::Answers::write_out, crate::specs::Answers::reply_code, crate::specs::Answers::chosen, crate::specs::Answers::reply_with, crate::specs::Answers::reply_answer, crate::specs::Option::mode_of, crate::specs::Option::strengths_of, crate::specs::Option::word_of, crate::specs::Option::option_octets, crate::specs::Reset::reset_octets, crate::specs::Reset::reset_code, crate::specs::Reset::reset_answer, crate::specs::Reset::write_reset_code, crate::specs::Reset::write_reset_out))]
 
 mod reset;
 
 ghost use Rattle.std.specs.Prelude.{◌≡◌, ◌∷◌};
-ghost use Rattle.answer.specs.Answer.{shape, pick};
+ghost use Rattle.answer.specs.Answer.{pick, number_of, result_of};
 ghost use Rattle.octets.specs.Octets.{big_endian};
 ghost use Rattle.mppe_keys.specs.declared.Mode.TheVariants.{Stateless};
 ghost use Rattle.ccp.specs.Option.{option_type, option_length, is_set, mode_of, strengths_of, mode_bit, word_of, common as in_common, none_of, strongest as strongest_of, only as alone, choice_word};
-ghost use Rattle.ccp.specs.Answers.{read_code, supported_bits, read_answer, write_code, write_out, reply_code, replied_word, reply_answer, reply_code_of, reply_word};
+ghost use Rattle.ccp.specs.Answers.{read_code, supported_bits, read_answer, write_code, write_out, reply_code, replied_word, reply_answer, reply_word};
 
+use answer::Refusal;
 use mppe_keys::{Mode, Strength};
-use octets::Order;
-pub use reset::{Reset, read_reset, write_reset};
+pub use reset::{read_reset, write_reset};
 
 // The option's type.
 const OPTION_TYPE: u8 = 18;
@@ -29,72 +29,61 @@ const BIT_S: u32 = 0x40;
 const BIT_L: u32 = 0x20;
 
 // Strengths that are offered, or that a policy allows.
-#[derive(Clone, Copy)]
+#[derive(Clone, Copy, Debug, PartialEq, Eq)]
 pub struct Strengths {
     pub bits40: bool,
     pub bits56: bool,
     pub bits128: bool,
 }
 
-// What an option offers, behind the number answered.
-#[derive(Clone, Copy)]
+// What an option offers.
+#[derive(Clone, Copy, Debug, PartialEq, Eq)]
 pub struct Offer {
-    pub answer: u8,
     pub mode: Mode,
     pub strengths: Strengths,
 }
 
 // What a responder picks.
-#[derive(Clone, Copy)]
+#[derive(Clone, Copy, Debug, PartialEq, Eq)]
 pub struct Choice {
     pub strength: Strength,
     pub mode: Mode,
 }
 
-// The reply to a request; a refusal has the number.
-#[derive(Clone, Copy)]
+// The reply to a request.
+#[derive(Clone, Copy, Debug, PartialEq, Eq)]
 pub enum Reply {
     Accept(Choice),
     CounterOffer(Choice),
-    Refused(u8),
-}
-
-// The supported bits of an option, behind the number answered.
-#[derive(Clone, Copy)]
-struct Bits {
-    answer: u8,
-    word: u32,
 }
 
 // Reads an option; refused as `shape` where it is not six octets, of type 18 and length 6. Bits other than H, M, S and L are ignored.
-pub fn read(option: &[u8]) -> Offer
+pub fn read(option: &[u8]) -> Result<Offer, Refusal>
     ensures { result ≡ read_answer option.now }
 {
-    let bits = supported_bits(option);
-    Offer {
-        answer: bits.answer,
-        mode: mode_of(bits.word),
-        strengths: strengths_of(bits.word),
-    }
+    let bits = supported_bits(option)?;
+    Ok(Offer {
+        mode: mode_of(bits),
+        strengths: strengths_of(bits),
+    })
 }
 
 // Writes an option into the front of a lent buffer; refused as `room` where that is shorter than six octets.
-pub fn write(mode: Mode, strengths: Strengths, out: &mut [u8]) -> u8
-    ensures { (result ≡ write_code out.old) × (out.new ≡ write_out mode strengths out.old) }
+pub fn write(mode: Mode, strengths: Strengths, out: &mut [u8]) -> Result<(), Refusal>
+    ensures { (result ≡ result_of (write_code out.old) tt) × (out.new ≡ write_out mode strengths out.old) }
 {
     if out.len() < OPTION_LENGTH as usize {
-        return answer::ROOM;
+        return Err(Refusal::Room);
     }
-    let option = option_octets(word_of(mode, strengths));
-    octets::copy(&option, out);
-    answer::DONE
+    out[..6].copy_from_slice(&option_octets(word_of(mode, strengths)));
+    Ok(())
 }
 
 // Replies to a request with the strongest strength that is offered and allowed, in the mode asked for where stateful is allowed; refused
-// with 1 as in reading, then with 8 where there is none.
-pub fn reply_to(option: &[u8], allowed: Strengths, stateful: bool) -> Reply
+// as in reading, then as `strength` where there is none.
+pub fn reply_to(option: &[u8], allowed: Strengths, stateful: bool) -> Result<Reply, Refusal>
     ensures { (result ≡ reply_answer option.now allowed stateful)
-        × (reply_code_of result ≡ reply_code option.now allowed) × (reply_word result ≡ replied_word option.now allowed stateful) }
+        × (number_of result ≡ reply_code option.now allowed) × (reply_word result ≡ replied_word option.now allowed stateful) }
 {
     reply_of(option, allowed, stateful)
 }
@@ -103,73 +92,39 @@ pub fn reply_to(option: &[u8], allowed: Strengths, stateful: bool) -> Reply
 pub fn only(strength: Strength) -> Strengths
     ensures { result ≡ alone strength }
 {
-    match strength {
-        Strength::Bits40 => Strengths {
-            bits40: true,
-            bits56: false,
-            bits128: false,
-        },
-        Strength::Bits56 => Strengths {
-            bits40: false,
-            bits56: true,
-            bits128: false,
-        },
-        Strength::Bits128 => Strengths {
-            bits40: false,
-            bits56: false,
-            bits128: true,
-        },
+    Strengths {
+        bits40: strength == Strength::Bits40,
+        bits56: strength == Strength::Bits56,
+        bits128: strength == Strength::Bits128,
     }
 }
 
 // The reply to a request, case by case.
-fn reply_of(option: &[u8], allowed: Strengths, stateful: bool) -> Reply
+fn reply_of(option: &[u8], allowed: Strengths, stateful: bool) -> Result<Reply, Refusal>
     ensures { result ≡ reply_answer option.now allowed stateful }
 {
-    let bits = supported_bits(option);
-    if bits.answer != answer::DONE {
-        return Reply::Refused(answer::SHAPE);
-    }
-    let usable = common(strengths_of(bits.word), allowed);
+    let bits = supported_bits(option)?;
+    let usable = common(strengths_of(bits), allowed);
     if none_of(usable) {
-        return Reply::Refused(answer::STRENGTH);
+        return Err(Refusal::Strength);
     }
     let choice = Choice {
         strength: strongest(usable),
-        mode: mode_for(stateful, bits.word),
+        mode: mode_for(stateful, bits),
     };
-    if bits.word != choice_word(choice) {
-        return Reply::CounterOffer(choice);
+    if bits != choice_word(choice) {
+        return Ok(Reply::CounterOffer(choice));
     }
-    Reply::Accept(choice)
+    Ok(Reply::Accept(choice))
 }
 
-// The supported bits of an option; a refused one has none.
-fn supported_bits(option: &[u8]) -> Bits
-    ensures { (result.answer ≡ read_code option.now) × (result.word ≡ supported_bits option.now) }
+// The supported bits of an option.
+fn supported_bits(option: &[u8]) -> Result<u32, Refusal>
+    ensures { result ≡ result_of (read_code option.now) (supported_bits option.now) }
 {
-    if option.len() != OPTION_LENGTH as usize {
-        return refused_bits();
-    }
-    if option[0] != OPTION_TYPE {
-        return refused_bits();
-    }
-    if option[1] != OPTION_LENGTH {
-        return refused_bits();
-    }
-    Bits {
-        answer: answer::DONE,
-        word: octets::word(option[2], option[3], option[4], option[5]),
-    }
-}
-
-// What an option of wrong shape has for bits.
-fn refused_bits() -> Bits
-    ensures { result ≡ record { answer = shape; word = 0 } }
-{
-    Bits {
-        answer: answer::SHAPE,
-        word: 0,
+    match option {
+        [OPTION_TYPE, OPTION_LENGTH, a, b, c, d] => Ok(u32::from_be_bytes([*a, *b, *c, *d])),
+        _ => Err(Refusal::Shape),
     }
 }
 
@@ -185,9 +140,10 @@ fn mode_for(stateful: bool, word: u32) -> Mode
     ensures { result ≡ pick stateful (mode_of word) Stateless }
 {
     if stateful {
-        return mode_of(word);
+        mode_of(word)
+    } else {
+        Mode::Stateless
     }
-    Mode::Stateless
 }
 
 // The mode that supported bits name.
@@ -195,9 +151,10 @@ fn mode_of(word: u32) -> Mode
     ensures { result ≡ mode_of word }
 {
     if is_set(word, BIT_H) {
-        return Mode::Stateless;
+        Mode::Stateless
+    } else {
+        Mode::Stateful
     }
-    Mode::Stateful
 }
 
 // The strengths that supported bits offer.
@@ -242,16 +199,8 @@ fn bit_if(set: bool, bit: u32) -> u32
 fn option_octets(word: u32) -> [u8; 6]
     ensures { result ≡ option_type ∷ option_length ∷ big_endian 4 word }
 {
-    let mut bits = [0u8; 4];
-    octets::put_words(Order::HighestFirst, &[word], &mut bits);
-    [
-        OPTION_TYPE,
-        OPTION_LENGTH,
-        bits[0],
-        bits[1],
-        bits[2],
-        bits[3],
-    ]
+    let [a, b, c, d] = word.to_be_bytes();
+    [OPTION_TYPE, OPTION_LENGTH, a, b, c, d]
 }
 
 // The strengths that are both offered and allowed.
@@ -259,9 +208,9 @@ fn common(offered: Strengths, allowed: Strengths) -> Strengths
     ensures { result ≡ in_common offered allowed }
 {
     Strengths {
-        bits40: offered.bits40 & allowed.bits40,
-        bits56: offered.bits56 & allowed.bits56,
-        bits128: offered.bits128 & allowed.bits128,
+        bits40: offered.bits40 && allowed.bits40,
+        bits56: offered.bits56 && allowed.bits56,
+        bits128: offered.bits128 && allowed.bits128,
     }
 }
 
@@ -269,7 +218,7 @@ fn common(offered: Strengths, allowed: Strengths) -> Strengths
 fn none_of(strengths: Strengths) -> bool
     ensures { result ≡ none_of strengths }
 {
-    !(strengths.bits40 | (strengths.bits56 | strengths.bits128))
+    !(strengths.bits40 || strengths.bits56 || strengths.bits128)
 }
 
 // The strongest of strengths.
@@ -277,19 +226,17 @@ fn strongest(strengths: Strengths) -> Strength
     ensures { result ≡ strongest_of strengths }
 {
     if strengths.bits128 {
-        return Strength::Bits128;
+        Strength::Bits128
+    } else if strengths.bits56 {
+        Strength::Bits56
+    } else {
+        Strength::Bits40
     }
-    if strengths.bits56 {
-        return Strength::Bits56;
-    }
-    Strength::Bits40
 }
 
 // The supported bits of a choice.
 fn choice_word(choice: Choice) -> u32
     ensures { result ≡ choice_word choice }
 {
-    let mode = choice.mode;
-    let strength = choice.strength;
-    word_of(mode, only(strength))
+    word_of(choice.mode, only(choice.strength))
 }

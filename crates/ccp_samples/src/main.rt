@@ -6,6 +6,7 @@ mod resets;
 
 ghost use Rattle.std.specs.Prelude.{◌<◌, ◌≤◌, length};
 
+use answer::number_of;
 use ccp::{Choice, Reply, Strengths};
 use mppe_keys::Mode;
 use std::io;
@@ -37,8 +38,7 @@ fn print_all<W: Write>(writer: &mut W) -> io::Result<()> {
     writes(writer)?;
     rooms(writer)?;
     replies(writer)?;
-    wrong_sizes(writer)?;
-    wrong_fields(writer)?;
+    wrong_options(writer)?;
     resets::all(writer)
 }
 
@@ -64,20 +64,18 @@ fn marked_reply<W: Write>(
 
 // Every request, read.
 fn reads<W: Write>(writer: &mut W) -> io::Result<()> {
-    let mut i = 0;
-    while i < REQUESTS {
+    for i in 0..REQUESTS {
         show_read(writer, &request(i))?;
-        i += 1;
     }
     Ok(())
 }
 
 // Every mode with every set of strengths, written into eight octets.
 fn writes<W: Write>(writer: &mut W) -> io::Result<()> {
-    let mut i = 0;
-    while i < 2 * SETS {
-        show_write(writer, mode(i / SETS), i % SETS, &mut [0xaa; 8])?;
-        i += 1;
+    for mode in [Mode::Stateful, Mode::Stateless] {
+        for set in 0..SETS {
+            show_write(writer, mode, set, &mut [0xaa; 8])?;
+        }
     }
     Ok(())
 }
@@ -92,35 +90,38 @@ fn rooms<W: Write>(writer: &mut W) -> io::Result<()> {
 
 // Every request under every policy.
 fn replies<W: Write>(writer: &mut W) -> io::Result<()> {
-    let mut i = 0;
-    while i < POLICIES * REQUESTS {
-        show_reply(writer, &request(i % REQUESTS), i / REQUESTS)?;
-        i += 1;
+    for policy in 0..POLICIES {
+        for i in 0..REQUESTS {
+            show_reply(writer, &request(i), policy)?;
+        }
     }
     Ok(())
 }
 
-// Options that are not six octets.
-fn wrong_sizes<W: Write>(writer: &mut W) -> io::Result<()> {
-    refused(writer, b"")?;
-    refused(writer, b"\x12\x06\x01\x00\x00")?;
-    refused(writer, b"\x12\x06\x01\x00\x00\x40\x00")?;
-    refused(writer, b"\x12\x07\x01\x00\x00\x40\x00")
-}
-
-// Options of six octets with another type or length.
-fn wrong_fields<W: Write>(writer: &mut W) -> io::Result<()> {
-    refused(writer, b"\x11\x06\x01\x00\x00\x40")?;
-    refused(writer, b"\x12\x05\x01\x00\x00\x40")?;
-    refused(writer, b"\x12\x07\x01\x00\x00\x40")
+// Options that are not six octets, and those of six octets with another type or length.
+fn wrong_options<W: Write>(writer: &mut W) -> io::Result<()> {
+    let options: [&[u8]; 7] = [
+        b"",
+        b"\x12\x06\x01\x00\x00",
+        b"\x12\x06\x01\x00\x00\x40\x00",
+        b"\x12\x07\x01\x00\x00\x40\x00",
+        b"\x11\x06\x01\x00\x00\x40",
+        b"\x12\x05\x01\x00\x00\x40",
+        b"\x12\x07\x01\x00\x00\x40",
+    ];
+    for option in options {
+        refused(writer, option)?;
+    }
+    Ok(())
 }
 
 // An option read, and replied to with all strengths allowed, with none, and with stateful mode besides: 1 comes before 8.
 fn refused<W: Write>(writer: &mut W, option: &[u8]) -> io::Result<()> {
     show_read(writer, option)?;
-    show_reply(writer, option, 7)?;
-    show_reply(writer, option, 0)?;
-    show_reply(writer, option, 15)
+    for policy in [7, 0, 15] {
+        show_reply(writer, option, policy)?;
+    }
+    Ok(())
 }
 
 // Request i.
@@ -152,50 +153,41 @@ fn strengths(i: usize) -> Strengths {
 
 // Which set of strengths it is.
 fn set_of(strengths: Strengths) -> usize {
-    digit(strengths.bits40) | digit(strengths.bits56) << 1 | digit(strengths.bits128) << 2
+    strengths.bits40 as usize | (strengths.bits56 as usize) << 1 | (strengths.bits128 as usize) << 2
 }
 
-// One where it holds.
-fn digit(holds: bool) -> usize {
-    if holds { 1 } else { 0 }
-}
-
-// Mode i: 0 is stateful, as in the option.
-fn mode(i: usize) -> Mode {
-    if i == 0 {
-        return Mode::Stateful;
-    }
-    Mode::Stateless
-}
-
-// The line of an option read: mode, set of strengths, number, option.
+// The line of an option read: mode, set of strengths, number, option. A refused one is stateful and has no strength.
 fn show_read<W: Write>(writer: &mut W, option: &[u8]) -> io::Result<()> {
     let offer = ccp::read(option);
-    let mode = offer.mode;
-    let strengths = offer.strengths;
-    show_mode(writer, mode, set_of(strengths), offer.answer, option)
+    let number = number_of(&offer);
+    let (mode, set) = match offer {
+        Ok(offer) => (offer.mode, set_of(offer.strengths)),
+        Err(_) => (Mode::Stateful, 0),
+    };
+    show_mode(writer, mode, set, number, option)
 }
 
 // The line of an option written: set of strengths, number, the buffer afterwards.
 fn show_write<W: Write>(writer: &mut W, mode: Mode, set: usize, out: &mut [u8]) -> io::Result<()> {
-    let answer = ccp::write(mode, strengths(set), out);
-    report::numbered(writer, b"written", set, answer, out)
+    let number = number_of(&ccp::write(mode, strengths(set), out));
+    report::numbered(writer, b"written", set, number, out)
 }
 
 // The line of a reply: its kind and mode, the policy, its number, the request in eight octets, the reply's option.
 fn show_reply<W: Write>(writer: &mut W, option: &[u8], policy: usize) -> io::Result<()> {
     let mut shown = [0u8; 14];
-    octets::copy(option, &mut shown);
+    let n = option.len().min(8);
+    shown[..n].copy_from_slice(&option[..n]);
     match ccp::reply_to(option, strengths(policy), SETS <= policy) {
-        Reply::Accept(choice) => show_choice(writer, b"accept ", policy, choice, &mut shown),
-        Reply::CounterOffer(choice) => show_choice(
+        Ok(Reply::Accept(choice)) => show_choice(writer, b"accept ", policy, choice, &mut shown),
+        Ok(Reply::CounterOffer(choice)) => show_choice(
             writer,
             b"counter-offer ",
             policy,
             choice,
             &mut shown,
         ),
-        Reply::Refused(number) => report::numbered(writer, b"refused", policy, number, &shown),
+        Err(refusal) => report::numbered(writer, b"refused", policy, u8::from(refusal), &shown),
     }
 }
 
@@ -209,11 +201,9 @@ fn show_choice<W: Write>(
 ) -> io::Result<()>
     requires { 8 ≤ length shown.old }
 {
-    let mode = choice.mode;
-    let strength = choice.strength;
-    let answer = ccp::write(mode, ccp::only(strength), &mut shown[8..]);
+    let written = ccp::write(choice.mode, ccp::only(choice.strength), &mut shown[8..]);
     writer.write_all(kind)?;
-    show_mode(writer, mode, policy, answer, shown)
+    show_mode(writer, choice.mode, policy, number_of(&written), shown)
 }
 
 // A line behind a mode, with a number.

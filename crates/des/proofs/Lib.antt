@@ -1,6 +1,5 @@
-pub mod Select
+pub mod Selection
 pub mod Joining
 pub mod Groups
 pub mod Iterations
 pub mod Holding
-pub mod Answered

@@ -1,10 +1,10 @@
 -- DES as FIPS 46-3 has it ("Enciphering", "The Cipher Function f" and, for the key schedule, Appendix 1): one block of 64 bits enciphered.
 -- A block of bits is the number that they are in base 2. The standard numbers the bits of a block from left to right, from 1.
-use Rattle.std.specs.Prelude.{List, [], ◌∷◌, map, ℕ, zero, suc, ◌+◌, ◌-◌, ◌*◌, ◌/◌, ◌%◌, ◌^◌, get_or, replicate}
+use Rattle.std.specs.Prelude.{List, [], ◌∷◌, map, ℕ, zero, suc, ◌+◌, ◌-◌, ◌*◌, ◌/◌, ◌%◌, ◌^◌, get_or, Result}
 use Rattle.std.specs.Int.Bits.{bit_xor}
-use Rattle.answer.specs.Answer.{size, first_of, on_done, wrong}
+use Rattle.answer.specs.declared.Refusal.{Refusal}
+use Rattle.answer.specs.Answer.{size, first_of, result_of, wrong}
 use Rattle.octets.specs.Octets.{big_endian, from_big_endian}
-use Rattle.des.specs.declared.Block.{Block}
 use Rattle.des.specs.declared.Halves.{Halves}
 use Rattle.des.specs.Tables.{initial, inverse, expansion, permutation, boxes, choice1_c, choice1_d, choice2, shifts}
 
@@ -86,9 +86,5 @@ abbrev pub encrypt_code : (key block : List ℕ) → ℕ
 encrypt_code key block = first_of ((size, wrong key_octets key) ∷ (size, wrong block_octets block) ∷ [])
 
 -- the answer to a key and a block of any lengths
-unfoldable pub encrypt_answer : (key block : List ℕ) → Block
-encrypt_answer key block =
-    record {
-      answer = encrypt_code key block;
-      octets = on_done (encrypt_code key block) (encrypted key block) (replicate block_octets 0);
-    }
+unfoldable pub encrypt_answer : (key block : List ℕ) → Result (List ℕ) Refusal
+encrypt_answer key block = result_of (encrypt_code key block) (encrypted key block)

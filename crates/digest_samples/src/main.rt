@@ -1,6 +1,7 @@
 // The published samples of MD4, SHA-1, SHA-256 and HMAC, every length about one and two blocks, and the edges of the limit.
 #![tactic(auto)]
 
+use answer::{Refusal, number_of};
 use report::{line, numbered};
 use std::io;
 use std::io::{BufWriter, Write};
@@ -64,60 +65,88 @@ fn print_all<W: Write>(writer: &mut W) -> io::Result<()> {
 
 // A text of RFC 1320's test suite (A.5).
 fn rfc1320<W: Write>(writer: &mut W, text: &[u8]) -> io::Result<()> {
-    let d = md4::md4(text);
-    line(writer, b"rfc1320 md4", d.answer, &d.octets)
+    sample(writer, b"rfc1320 md4", md4::md4(text))
 }
 
 // A text of the examples of FIPS 180.
 fn fips180<W: Write>(writer: &mut W, text: &[u8]) -> io::Result<()> {
-    let d = sha_1::sha1(text);
-    line(writer, b"fips180 sha1", d.answer, &d.octets)?;
-    let e = sha256::sha256(text);
-    line(writer, b"fips180 sha256", e.answer, &e.octets)
+    sample(writer, b"fips180 sha1", sha_1::sha1(text))?;
+    sample(writer, b"fips180 sha256", sha256::sha256(text))
 }
 
 // A test case of RFC 4231.
 fn rfc4231<W: Write>(writer: &mut W, key: &[u8], text: &[u8]) -> io::Result<()> {
-    let d = sha256::hmac_sha256(key, text);
-    line(writer, b"rfc4231 hmac-sha256", d.answer, &d.octets)
+    sample(
+        writer,
+        b"rfc4231 hmac-sha256",
+        sha256::hmac_sha256(key, text),
+    )
 }
 
 // Texts of 0 to 130 octets, the longest one, and one that is too long.
 fn lengths<W: Write>(writer: &mut W) -> io::Result<()> {
     let mut text = [0u8; TOO_LONG];
     fill(&mut text);
-    let mut n = 0;
-    while n <= 130 {
-        each(writer, &text, n)?;
-        n += 1;
+    for n in 0..=130 {
+        each(writer, &text[..n])?;
     }
-    each(writer, &text, TOO_LONG - 1)?;
-    each(writer, &text, TOO_LONG)
+    each(writer, &text[..TOO_LONG - 1])?;
+    each(writer, &text)
 }
 
 // Octets that repeat only after 256 * 251 places.
 fn fill(text: &mut [u8]) {
-    let mut i = 0;
-    while i < text.len() {
-        text[i] = ((7 * (i % 256) + i / 251 % 256 + 3) % 256) as u8;
-        i += 1;
+    for (i, octet) in text.iter_mut().enumerate() {
+        *octet = ((7 * (i % 256) + i / 251 % 256 + 3) % 256) as u8;
     }
 }
 
-// Every digest of the first n octets, and HMAC with them as key and as text.
-fn each<W: Write>(writer: &mut W, text: &[u8], n: usize) -> io::Result<()> {
-    if text.len() < n {
-        return Ok(());
-    }
-    let part = &text[..n];
-    let a = md4::md4(part);
-    numbered(writer, b"md4", n, a.answer, &a.octets)?;
-    let b = sha_1::sha1(part);
-    numbered(writer, b"sha1", n, b.answer, &b.octets)?;
-    let c = sha256::sha256(part);
-    numbered(writer, b"sha256", n, c.answer, &c.octets)?;
-    let d = sha256::hmac_sha256(b"key", part);
-    numbered(writer, b"hmac-sha256 of text", n, d.answer, &d.octets)?;
-    let e = sha256::hmac_sha256(part, b"text");
-    numbered(writer, b"hmac-sha256 under key", n, e.answer, &e.octets)
+// Every digest of a text, and HMAC with it as key and as text.
+fn each<W: Write>(writer: &mut W, text: &[u8]) -> io::Result<()> {
+    let n = text.len();
+    sized(writer, b"md4", n, md4::md4(text))?;
+    sized(writer, b"sha1", n, sha_1::sha1(text))?;
+    sized(writer, b"sha256", n, sha256::sha256(text))?;
+    sized(
+        writer,
+        b"hmac-sha256 of text",
+        n,
+        sha256::hmac_sha256(b"key", text),
+    )?;
+    sized(
+        writer,
+        b"hmac-sha256 under key",
+        n,
+        sha256::hmac_sha256(text, b"text"),
+    )
+}
+
+// A line of a sample: the number answered, and the digest, or zeros where it is refused.
+fn sample<W: Write, const N: usize>(
+    writer: &mut W,
+    label: &[u8],
+    digest: Result<[u8; N], Refusal>,
+) -> io::Result<()> {
+    line(
+        writer,
+        label,
+        number_of(&digest),
+        &digest.unwrap_or([0u8; N]),
+    )
+}
+
+// The same with the length of the text.
+fn sized<W: Write, const N: usize>(
+    writer: &mut W,
+    label: &[u8],
+    n: usize,
+    digest: Result<[u8; N], Refusal>,
+) -> io::Result<()> {
+    numbered(
+        writer,
+        label,
+        n,
+        number_of(&digest),
+        &digest.unwrap_or([0u8; N]),
+    )
 }

@@ -1,9 +1,10 @@
 -- What follows from the definitions alone: calls on the octets of a record, and calls that are refused.
-use Rattle.std.specs.Prelude.{◌≡◌, Bool, true, false, ◌≢◌, List, [], ◌++◌, eqb, length, take, replicate}
+use Rattle.std.specs.Prelude.{◌≡◌, Bool, true, false, ◌≢◌, List, [], ◌++◌, eqb, length, take, replicate, Result as Answered, Ok, Err}
 use Rattle.std.proofs.Math.Path.{refl}
 use Rattle.std.proofs.Common.{sym, ap, ◌∙◌, append-nil, arith, drop_of_length-le, le-ltb}
 use Prim.Native.Nat.{ℕ, zero, suc, ◌-◌, ◌≤◌}
-use Rattle.answer.specs.Answer.{done, shape, not_record, strength, waiting, pick, on_done}
+use Rattle.answer.specs.declared.Refusal.{Refusal}
+use Rattle.answer.specs.Answer.{number as number_of_refusal, done, shape, not_record, strength, waiting, pick, on_done}
 use Rattle.answer.specs.Laws.{right}
 use Rattle.octets.specs.Octets.{Octets}
 use Rattle.mppe_keys.specs.declared.Strength.{Strength}
@@ -22,7 +23,7 @@ use Rattle.mppe_walk.specs.Laws.{in_front_octets, front_kept, writes_back as wal
 use Rattle.tape.specs.Tape.{most_groups}
 use Rattle.tape.specs.Replay.{held}
 use Rattle.tape.proofs.ReplayLaws.{of_step}
-use Rattle.host.specs.Host.{Given, Linked, given, new_link_given, linked_by, unchanged, linked, seal_linked, open_linked, reset_linked, walked_by, stepped, walked, feed_walked, end_walked, closed_octets, begin_walked, step_with, replay_linked}
+use Rattle.host.specs.Host.{Given, Linked, given, new_link_given, linked_by, unchanged, on_read, linked, seal_linked, open_linked, reset_linked, walked_by, stepped, walked, feed_walked, end_walked, closed_octets, begin_walked, step_with, replay_linked}
 
 -- a call on the octets of a record is the call on that record
 pub linked_on : (call : Link → Result) (l : Link) (out : List ℕ) → Sized l → linked call (record_octets l) out ≡ linked_by (call l)
@@ -30,15 +31,15 @@ unfolding linked
 linked_on call l out h = rw (reads_back l h)
 
 -- a call that hands back the record given leaves its octets as they were
-pub linked_kept : (call : Link → Result) (octets out : List ℕ) → Octets octets → (call (record_read octets).link).outcome.link ≡ (record_read octets).link
+pub linked_kept : (call : Link → Result) (octets out : List ℕ) → Octets octets → ((l : Link) → record_read octets ≡ Ok l → (call l).outcome.link ≡ l)
     → (linked call octets out).octets ≡ octets
 unfolding linked
-linked_kept call octets out all same = go (record_read octets).answer refl
+linked_kept call octets out all same = go (record_read octets) refl
   where
-    go : (code : ℕ) → (record_read octets).answer ≡ code
-        → (on_done code (linked_by (call (record_read octets).link)) (unchanged code octets out)).octets ≡ octets
-    go zero ok = ap record_octets same ∙ writes_back octets all ok
-    go (suc n) ok = refl
+    go : (read : Answered Link Refusal) → record_read octets ≡ read
+        → (on_read (λ l. linked_by (call l)) (λ code. unchanged code octets out) read).octets ≡ octets
+    go (Ok l) e = ap record_octets (same l e) ∙ writes_back octets all e
+    go (Err refusal) e = refl
 
 -- "Refusals 1 to 9 hand back the record given and change no lent octet", and so does 10; "No refusal but 11 changes a record": with the
 -- numbers by which a call on records leaves all as it was ..
@@ -49,17 +50,14 @@ Refuses Stays call out = (l : Link) → Stays (call l).outcome.answer → call l
 pub linked_refused : (Stays : ℕ → Type 0) (call : Link → Result) (octets out : List ℕ) → Refuses Stays call out → Octets octets
     → Stays (linked call octets out).code → linked call octets out ≡ unchanged (linked call octets out).code octets out
 unfolding linked
-linked_refused Stays call octets out refuses all = go (record_read octets).answer refl
+linked_refused Stays call octets out refuses all = go (record_read octets) refl
   where
-    held : Link
-    held = (record_read octets).link
+    made : Answered Link Refusal → Linked
+    made read = on_read (λ l. linked_by (call l)) (λ code. unchanged code octets out) read
 
-    made : ℕ → Linked
-    made code = on_done code (linked_by (call held)) (unchanged code octets out)
-
-    go : (code : ℕ) → (record_read octets).answer ≡ code → Stays (made code).code → made code ≡ unchanged (made code).code octets out
-    go zero e stays = ap linked_by (refuses held stays) ∙ ap (λ o. unchanged (call held).outcome.answer o out) (writes_back octets all e)
-    go (suc n) e stays = refl
+    go : (read : Answered Link Refusal) → record_read octets ≡ read → Stays (made read).code → made read ≡ unchanged (made read).code octets out
+    go (Ok l) e stays = ap linked_by (refuses l stays) ∙ ap (λ o. unchanged (call l).outcome.answer o out) (writes_back octets all e)
+    go (Err refusal) e stays = refl
 
 -- seal and a Reset-Request are such calls with every number but 0 ..
 abbrev NotDone : ℕ → Type 0
@@ -136,26 +134,23 @@ pub walked_refused : (closing : ℕ → Bool) (call : Walk → Fed) (octets out 
     → (walked call octets out).code ≢ done
     → walked call octets out ≡ unchanged (walked call octets out).code (pick (closing (walked call octets out).code) (closed_octets octets) octets) out
 unfolding walked
-walked_refused closing call octets out stays refuses all = go (walk_read octets).answer refl
+walked_refused closing call octets out stays refuses all = go (walk_read octets) refl
   where
-    held : Walk
-    held = (walk_read octets).walk
+    made : Answered Walk Refusal → Linked
+    made read = on_read (λ w. walked_by (call w)) (λ code. unchanged code octets out) read
 
-    made : ℕ → Linked
-    made code = on_done code (walked_by (call held)) (unchanged code octets out)
+    left : (held : Walk) → walk_read octets ≡ Ok held → (t : Bool) → walk_octets (pick t (over held.link) held) ≡ pick t (closed_octets octets) octets
+    left held e true = over_octets held.link ∙ ap (λ f. f ++ replicate (walk_length - record_length) 0) (front_kept octets all e)
+    left held e false = walk-back octets all e
 
-    left : (walk_read octets).answer ≡ done → (t : Bool) → walk_octets (pick t (over held.link) held) ≡ pick t (closed_octets octets) octets
-    left e true = over_octets held.link ∙ ap (λ f. f ++ replicate (walk_length - record_length) 0) (front_kept octets all e)
-    left e false = walk-back octets all e
-
-    go : (code : ℕ) → (walk_read octets).answer ≡ code → (made code).code ≢ done
-        → made code ≡ unchanged (made code).code (pick (closing (made code).code) (closed_octets octets) octets) out
-    go zero e not0 =
+    go : (read : Answered Walk Refusal) → walk_read octets ≡ read → (made read).code ≢ done
+        → made read ≡ unchanged (made read).code (pick (closing (made read).code) (closed_octets octets) octets) out
+    go (Ok held) e not0 =
         ap walked_by (refuses held not0)
-        ∙ ap (λ o. unchanged (call held).step.answer o out) (left e (closing (call held).step.answer))
-    go (suc n) e not0 =
-        let code : suc n ≡ not_record = sym e ∙ read_refused octets (λ z. not0 (sym e ∙ z)) in
-        ap (λ t. unchanged (suc n) (pick t (closed_octets octets) octets) out) (sym (ap closing code ∙ stays))
+        ∙ ap (λ o. unchanged (call held).step.answer o out) (left held e (closing (call held).step.answer))
+    go (Err refusal) e not0 =
+        let code : number_of_refusal refusal ≡ not_record = ap number_of_refusal (read_refused octets e) in
+        ap (λ t. unchanged (number_of_refusal refusal) (pick t (closed_octets octets) octets) out) (sym (ap closing code ∙ stays))
 
 -- a result of its parts
 refused_is : (r : Fed) (w : Walk) (out : List ℕ) → r.step.changes ≡ 0 → r.step.walk ≡ w → r.buffer ≡ out
@@ -202,33 +197,30 @@ pub begin_refused : (octets four : List ℕ) (total lent : ℕ) → Octets octet
     → (begin_walked octets four total lent).code ≢ done → (begin_walked octets four total lent).code ≢ waiting
     → begin_walked octets four total lent ≡ unchanged (begin_walked octets four total lent).code (closed_octets octets) []
 unfolding begin_walked
-begin_refused octets four total lent all long = rw (right walk_length octets long) (go (front_read octets).answer refl)
+begin_refused octets four total lent all long = rw (right walk_length octets long) (go (front_read octets) refl)
   where
-    held : Link
-    held = (front_read octets).link
+    begun : Link → Step
+    begun l = begin_step longest_plain farthest l four total lent
 
-    begun : Step
-    begun = begin_step longest_plain farthest held four total lent
+    made : Answered Link Refusal → Linked
+    made read = on_read (λ l. walked_by (stepped (begun l))) (λ code. unchanged code (closed_octets octets) []) read
 
-    made : ℕ → Linked
-    made code = on_done code (walked_by (stepped begun)) (unchanged code (closed_octets octets) [])
-
-    go : (code : ℕ) → (front_read octets).answer ≡ code → (made code).code ≢ done → (made code).code ≢ waiting
-        → made code ≡ unchanged (made code).code (closed_octets octets) []
-    go zero e not0 not11 =
+    go : (read : Answered Link Refusal) → front_read octets ≡ read → (made read).code ≢ done → (made read).code ≢ waiting
+        → made read ≡ unchanged (made read).code (closed_octets octets) []
+    go (Ok l) e not0 not11 =
         let kept = writes_back (take record_length octets) (in_front_octets record_length octets all) e in
-        ap walked_by (begin_closes held four total lent not0 not11)
-        ∙ ap (λ o. unchanged begun.answer o []) (over_octets held ∙ ap (λ f. f ++ replicate (walk_length - record_length) 0) kept)
-    go (suc n) e not0 not11 = refl
+        ap walked_by (begin_closes l four total lent not0 not11)
+        ∙ ap (λ o. unchanged (begun l).answer o []) (over_octets l ∙ ap (λ f. f ++ replicate (walk_length - record_length) 0) kept)
+    go (Err refusal) e not0 not11 = refl
 
 -- no report is above the farthest distance, whatever the record's octets and the packet or the tape are
 linked_bound : (call : Link → Result) (octets out : List ℕ) → ((l : Link) → (call l).outcome.changes ≤ farthest) → (linked call octets out).changed ≤ farthest
 unfolding linked
-linked_bound call octets out bound = go (record_read octets).answer
+linked_bound call octets out bound = go (record_read octets)
   where
-    go : (code : ℕ) → (on_done code (linked_by (call (record_read octets).link)) (unchanged code octets out)).changed ≤ farthest
-    go zero = bound (record_read octets).link
-    go (suc n) = omega arith
+    go : (read : Answered Link Refusal) → (on_read (λ l. linked_by (call l)) (λ code. unchanged code octets out) read).changed ≤ farthest
+    go (Ok l) = bound l
+    go (Err refusal) = omega arith
 
 pub open_report_bound : (octets packet out : List ℕ) → (open_linked octets packet out).changed ≤ farthest
 unfolding open_linked

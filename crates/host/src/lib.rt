@@ -1,23 +1,23 @@
 // What a concentrator written in C calls, over numbers and octets; include/udukemb.h says the same to C.
 #![tactic(auto)]
 
-ghost use Rattle.std.specs.Prelude.{◌≡◌, length, true, false};
-ghost use Rattle.answer.specs.Answer.{done, first_of};
+ghost use Rattle.std.specs.Prelude.{◌≡◌, length, true, false, replicate};
+ghost use Rattle.answer.specs.Answer.{done, first_of, number, number_of, value_of, result_of};
 ghost use Rattle.mschap.specs.Answers.{check_response_answer, check_authenticator_answer};
 ghost use Rattle.mppe_keys.specs.Answers.{key_answer};
 ghost use Rattle.ccp.specs.Reset.{write_reset_code, write_reset_out};
 ghost use Rattle.mppe_record.specs.Record.{record_length, record_octets};
 ghost use Rattle.mppe_walk.specs.Walk.{walk_length, walk_octets};
 ghost use Rattle.tape.specs.Tape.{most_groups, longest_packet, next_of, begin_code, begin_out, write_answer, write_out, read_at};
-ghost use Rattle.host.specs.Host.{given, check_of, nt_response_given, authenticator_string_given, role_of, direction_of, base_key_given, binding_key_given, start_key_from, master_key_from, credential_rows, start_key_given, choice_octets, allowed_of, option_given, option_reply, choice_reply, no_reply, new_link_given, seal_linked, open_linked, opened_by, reset_linked, closed_octets, begin_walked, feed_walked, end_walked, written_of, next_in, replay_linked, replay_offset, replayed_by, marks_written, marks_out, marks_checked, mark_given, mark_told};
+ghost use Rattle.host.specs.Host.{given, check_of, nt_response_given, authenticator_string_given, role_of, direction_of, base_key_given, binding_key_given, start_key_from, master_key_from, credential_rows, start_key_given, choice_octets, allowed_of, option_given, option_reply, choice_reply, no_reply, new_link_given, seal_linked, open_linked, opened_by, reset_linked, unopened, closed_octets, begin_walked, feed_walked, end_walked, written_of, next_in, replay_linked, replay_offset, replayed_by, marks_written, marks_out, checked_of, marks_checked, mark_given, mark_told};
 
+use answer::{Refusal, number_of};
 use ccp::{Choice, Strengths};
 use mppe::Link;
 use mppe_keys::{Direction, Role, Strength, is_stateful, mode_if};
 use mppe_pieces::Walk;
 use mppe_record::{bits_of, no_strength, read_record, record_octets, strength_of};
 use mppe_walk::{read_walk, walk_octets};
-use mschap::Checked;
 
 // The number answered, and whether what was received is what it must be; a refusal is a no.
 #[repr(C)]
@@ -107,6 +107,7 @@ pub extern "C" fn udukemb_check_response(
 
 // The NT-Response of a password to both challenges.
 #[unsafe(no_mangle)]
+#[tactic(auto, unfolding(crate::specs::Host::nt_response_given))]
 pub extern "C" fn udukemb_nt_response(
     authenticator: &[u8],
     peer: &[u8],
@@ -119,13 +120,15 @@ pub extern "C" fn udukemb_nt_response(
         × (out.new ≡ (nt_response_given authenticator.now peer.now name.now password.now
         out.old).buffer) }
 {
-    let response = mschap::nt_response(authenticator, peer, name, password);
-    let octets = response.octets;
-    give(response.answer, &octets, out)
+    give_octets(
+        mschap::nt_response(authenticator, peer, name, password),
+        out,
+    )
 }
 
 // The string by which an authenticator answers an NT-Response.
 #[unsafe(no_mangle)]
+#[tactic(auto, unfolding(crate::specs::Host::authenticator_string_given))]
 pub extern "C" fn udukemb_authenticator_string(
     password: &[u8],
     response: &[u8],
@@ -139,9 +142,10 @@ pub extern "C" fn udukemb_authenticator_string(
         × (out.new ≡ (authenticator_string_given password.now response.now peer.now
         authenticator.now name.now out.old).buffer) }
 {
-    let string = mschap::authenticator_string(password, response, peer, authenticator, name);
-    let octets = string.octets;
-    give(string.answer, &octets, out)
+    give_octets(
+        mschap::authenticator_string(password, response, peer, authenticator, name),
+        out,
+    )
 }
 
 // Whether a received authenticator string is the one that the password gives.
@@ -185,30 +189,28 @@ pub extern "C" fn udukemb_start_key(
         response,
     );
     let n = mppe_keys::key_length(strength);
-    let octets = key.octets;
-    give(key.answer, &octets[..n], out)
+    let number = number_of(&key);
+    give(number, &key.unwrap_or([0; 16])[..n], out)
 }
 
 // The base key of an end's two start keys.
 #[unsafe(no_mangle)]
+#[tactic(auto, unfolding(crate::specs::Host::base_key_given))]
 pub extern "C" fn udukemb_base_key(server: bool, send: &[u8], receive: &[u8], out: &mut [u8]) -> u8
     ensures { (result ≡ (base_key_given server send.now receive.now out.old).code)
         × (out.new ≡ (base_key_given server send.now receive.now out.old).buffer) }
 {
-    let key = sstp::base_key(role_of(server), send, receive);
-    let octets = key.octets;
-    give(key.answer, &octets, out)
+    give_octets(sstp::base_key(role_of(server), send, receive), out)
 }
 
 // The binding key of a base key, or of other key material.
 #[unsafe(no_mangle)]
+#[tactic(auto, unfolding(crate::specs::Host::binding_key_given))]
 pub extern "C" fn udukemb_binding_key(material: &[u8], out: &mut [u8]) -> u8
     ensures { (result ≡ (binding_key_given material.now out.old).code)
         × (out.new ≡ (binding_key_given material.now out.old).buffer) }
 {
-    let key = sstp::binding_key(material);
-    let octets = key.octets;
-    give(key.answer, &octets, out)
+    give_octets(sstp::binding_key(material), out)
 }
 
 // The reply to a requested option, of the strengths that are allowed, in the mode asked for where stateful is allowed.
@@ -230,9 +232,9 @@ pub extern "C" fn udukemb_option_reply(
         bits128,
     };
     match ccp::reply_to(option, allowed, stateful) {
-        ccp::Reply::Accept(choice) => put_reply(true, choice, out),
-        ccp::Reply::CounterOffer(choice) => put_reply(false, choice, out),
-        ccp::Reply::Refused(number) => refused_reply(number),
+        Ok(ccp::Reply::Accept(choice)) => put_reply(true, choice, out),
+        Ok(ccp::Reply::CounterOffer(choice)) => put_reply(false, choice, out),
+        Err(refusal) => refused_reply(u8::from(refusal)),
     }
 }
 
@@ -258,16 +260,16 @@ pub extern "C" fn udukemb_new_link(
 
 // Seals a plain packet with the record in lent octets.
 #[unsafe(no_mangle)]
+#[tactic(auto, using(mppe_record::proofs::Laws::read_length), unfolding(crate::specs::Host::seal_linked, crate::specs::Host::linked))]
 pub extern "C" fn udukemb_seal(link_record: &mut [u8], plain: &[u8], out: &mut [u8]) -> u8
     ensures { (result ≡ (seal_linked link_record.old plain.now out.old).code)
         × (link_record.new ≡ (seal_linked link_record.old plain.now out.old).octets)
         × (out.new ≡ (seal_linked link_record.old plain.now out.old).buffer) }
 {
-    let read = read_record(link_record);
-    if read.answer != answer::DONE {
-        return read.answer;
-    }
-    let link = read.link;
+    let link = match read_record(link_record) {
+        Ok(link) => link,
+        Err(refusal) => return u8::from(refusal),
+    };
     let sealed = link.seal(plain, out);
     put_record(sealed.link, link_record);
     sealed.answer
@@ -275,19 +277,16 @@ pub extern "C" fn udukemb_seal(link_record: &mut [u8], plain: &[u8], out: &mut [
 
 // Opens a sealed packet with the record in lent octets.
 #[unsafe(no_mangle)]
+#[tactic(auto, using(mppe_record::proofs::Laws::read_length), unfolding(crate::specs::Host::open_linked, crate::specs::Host::linked, crate::specs::Host::opened_by))]
 pub extern "C" fn udukemb_open(link_record: &mut [u8], packet: &[u8], out: &mut [u8]) -> Opened
     ensures { (result ≡ opened_by (open_linked link_record.old packet.now out.old))
         × (link_record.new ≡ (open_linked link_record.old packet.now out.old).octets)
         × (out.new ≡ (open_linked link_record.old packet.now out.old).buffer) }
 {
-    let read = read_record(link_record);
-    if read.answer != answer::DONE {
-        return Opened {
-            answer: read.answer,
-            changes: 0,
-        };
-    }
-    let link = read.link;
+    let link = match read_record(link_record) {
+        Ok(link) => link,
+        Err(refusal) => return unopened(refusal),
+    };
     let opened = link.open(packet, out);
     put_record(opened.link, link_record);
     Opened {
@@ -298,15 +297,15 @@ pub extern "C" fn udukemb_open(link_record: &mut [u8], packet: &[u8], out: &mut 
 
 // Takes a Reset-Request with the record in lent octets.
 #[unsafe(no_mangle)]
+#[tactic(auto, using(mppe_record::proofs::Laws::read_length), unfolding(crate::specs::Host::reset_linked, crate::specs::Host::linked))]
 pub extern "C" fn udukemb_reset(link_record: &mut [u8], request: &[u8]) -> u8
     ensures { (result ≡ (reset_linked link_record.old request.now).code)
         × (link_record.new ≡ (reset_linked link_record.old request.now).octets) }
 {
-    let read = read_record(link_record);
-    if read.answer != answer::DONE {
-        return read.answer;
-    }
-    let link = read.link;
+    let link = match read_record(link_record) {
+        Ok(link) => link,
+        Err(refusal) => return u8::from(refusal),
+    };
     let taken = link.reset(request);
     put_record(taken.link, link_record);
     taken.answer
@@ -314,10 +313,11 @@ pub extern "C" fn udukemb_reset(link_record: &mut [u8], request: &[u8]) -> u8
 
 // Writes a Reset-Request.
 #[unsafe(no_mangle)]
+#[tactic(auto, unfolding(ccp::specs::Reset::write_reset_code))]
 pub extern "C" fn udukemb_write_reset(identifier: u8, out: &mut [u8]) -> u8
     ensures { (result ≡ write_reset_code out.old) × (out.new ≡ write_reset_out identifier out.old) }
 {
-    ccp::write_reset(identifier, out)
+    number_of(&ccp::write_reset(identifier, out))
 }
 
 // Begins to open a packet in pieces with the record in front of a walk's lent octets.
@@ -332,15 +332,13 @@ pub extern "C" fn udukemb_begin(walk: &mut [u8], front: &[u8], total: usize, roo
             changes: 0,
         };
     }
-    let read = read_record(&walk[..mppe_record::RECORD_LENGTH]);
-    if read.answer != answer::DONE {
-        close_walk(walk);
-        return Opened {
-            answer: read.answer,
-            changes: 0,
-        };
-    }
-    let link = read.link;
+    let link = match read_record(&walk[..mppe_record::RECORD_LENGTH]) {
+        Ok(link) => link,
+        Err(refusal) => {
+            close_walk(walk);
+            return unopened(refusal);
+        }
+    };
     let begun = Walk::begin(link, front, total, room);
     put_walk(begun.walk, walk);
     Opened {
@@ -356,11 +354,10 @@ pub extern "C" fn udukemb_feed(walk: &mut [u8], piece: &[u8], out: &mut [u8]) ->
         × (walk.new ≡ (feed_walked walk.old piece.now out.old).octets)
         × (out.new ≡ (feed_walked walk.old piece.now out.old).buffer) }
 {
-    let read = read_walk(walk);
-    if read.answer != answer::DONE {
-        return read.answer;
-    }
-    let held = read.walk;
+    let held = match read_walk(walk) {
+        Ok(held) => held,
+        Err(refusal) => return u8::from(refusal),
+    };
     let fed = held.feed(piece, out);
     mppe_walk::put_rest(fed.walk, walk);
     fed.answer
@@ -368,17 +365,14 @@ pub extern "C" fn udukemb_feed(walk: &mut [u8], piece: &[u8], out: &mut [u8]) ->
 
 // Ends the walk in lent octets.
 #[unsafe(no_mangle)]
+#[tactic(auto, using(mppe_walk::specs::Laws::read_length), unfolding(crate::specs::Host::end_walked, crate::specs::Host::walked, crate::specs::Host::opened_by))]
 pub extern "C" fn udukemb_end(walk: &mut [u8]) -> Opened
     ensures { (result ≡ opened_by (end_walked walk.old)) × (walk.new ≡ (end_walked walk.old).octets) }
 {
-    let read = read_walk(walk);
-    if read.answer != answer::DONE {
-        return Opened {
-            answer: read.answer,
-            changes: 0,
-        };
-    }
-    let held = read.walk;
+    let held = match read_walk(walk) {
+        Ok(held) => held,
+        Err(refusal) => return unopened(refusal),
+    };
     let ended = held.end();
     put_walk(ended.walk, walk);
     Opened {
@@ -389,10 +383,11 @@ pub extern "C" fn udukemb_end(walk: &mut [u8]) -> Opened
 
 // Begins a tape.
 #[unsafe(no_mangle)]
+#[tactic(auto, unfolding(tape::specs::Tape::begin_answer, tape::specs::Tape::begin_code))]
 pub extern "C" fn udukemb_tape_begin(out: &mut [u8]) -> u8
     ensures { (result ≡ begin_code out.old) × (out.new ≡ begin_out out.old) }
 {
-    tape::begin(out)
+    number_of(&tape::begin(out))
 }
 
 // Writes the record of a packet, behind the octets of a tape that are there.
@@ -401,11 +396,7 @@ pub extern "C" fn udukemb_tape_write(packet: &[u8], out: &mut [u8]) -> Written
     ensures { (result ≡ written_of (write_answer most_groups longest_packet packet.now out.old))
         × (out.new ≡ write_out most_groups longest_packet packet.now out.old) }
 {
-    let written = tape::write(packet, out);
-    Written {
-        answer: written.answer,
-        length: written.length,
-    }
+    written_of(tape::write(packet, out))
 }
 
 // Reads a tape at an offset.
@@ -415,7 +406,7 @@ pub extern "C" fn udukemb_tape_read(tape: &[u8], offset: usize) -> Next
 {
     let next = tape::read(tape, offset);
     Next {
-        answer: next.answer,
+        answer: number_of(&next.answer),
         start: next.start,
         offset: next.offset,
     }
@@ -423,6 +414,7 @@ pub extern "C" fn udukemb_tape_read(tape: &[u8], offset: usize) -> Next
 
 // One step of a replay, with the record in lent octets.
 #[unsafe(no_mangle)]
+#[tactic(auto, using(mppe_record::proofs::Laws::read_length), unfolding(crate::specs::Host::replay_linked, crate::specs::Host::replay_offset, crate::specs::Host::replayed_by, crate::specs::Host::linked))]
 pub extern "C" fn udukemb_tape_replay(
     link_record: &mut [u8],
     tape: &[u8],
@@ -434,15 +426,16 @@ pub extern "C" fn udukemb_tape_replay(
         × (link_record.new ≡ (replay_linked link_record.old tape.now offset out.old).octets)
         × (out.new ≡ (replay_linked link_record.old tape.now offset out.old).buffer) }
 {
-    let read = read_record(link_record);
-    if read.answer != answer::DONE {
-        return Replayed {
-            answer: read.answer,
-            changes: 0,
-            offset: 0,
-        };
-    }
-    let link = read.link;
+    let link = match read_record(link_record) {
+        Ok(link) => link,
+        Err(refusal) => {
+            return Replayed {
+                answer: u8::from(refusal),
+                changes: 0,
+                offset: 0,
+            };
+        }
+    };
     let replayed = tape::replay(link, tape, offset, out);
     let outcome = replayed.outcome;
     put_record(outcome.link, link_record);
@@ -455,23 +448,21 @@ pub extern "C" fn udukemb_tape_replay(
 
 // Writes the list of a tape's marks, with the start record in lent octets.
 #[unsafe(no_mangle)]
+#[tactic(auto, unfolding(crate::specs::Host::marks_written, crate::specs::Host::marks_out, crate::specs::Host::written_of))]
 pub extern "C" fn udukemb_marks_write(link_record: &[u8], tape: &[u8], out: &mut [u8]) -> Written
     ensures { (result ≡ marks_written link_record.now tape.now out.old)
         × (out.new ≡ marks_out link_record.now tape.now out.old) }
 {
-    let read = read_record(link_record);
-    if read.answer != answer::DONE {
-        return Written {
-            answer: read.answer,
-            length: 0,
-        };
-    }
-    let link = read.link;
-    let written = marks::write(link, tape, out);
-    Written {
-        answer: written.answer,
-        length: written.length,
-    }
+    let link = match read_record(link_record) {
+        Ok(link) => link,
+        Err(refusal) => {
+            return Written {
+                answer: u8::from(refusal),
+                length: 0,
+            };
+        }
+    };
+    written_of(marks::write(link, tape, out))
 }
 
 // Reads a mark, and writes its link record into lent octets.
@@ -480,11 +471,19 @@ pub extern "C" fn udukemb_marks_read(mark: &[u8], link_record: &mut [u8]) -> Mar
     ensures { (result ≡ mark_told mark.now link_record.old)
         × (link_record.new ≡ (mark_given mark.now link_record.old).buffer) }
 {
-    let read = marks::read(mark);
-    let held = read.mark;
+    let held = match marks::read(mark) {
+        Ok(held) => held,
+        Err(refusal) => {
+            return Mark {
+                answer: u8::from(refusal),
+                opened: 0,
+                offset: 0,
+            };
+        }
+    };
     let link = held.link;
     let octets = record_octets(link);
-    let code = give(read.answer, &octets, link_record);
+    let code = give(answer::DONE, &octets, link_record);
     if code != answer::DONE {
         return Mark {
             answer: code,
@@ -501,24 +500,21 @@ pub extern "C" fn udukemb_marks_read(mark: &[u8], link_record: &mut [u8]) -> Mar
 
 // Checks a list against the marks of a tape, with the start record in lent octets.
 #[unsafe(no_mangle)]
+#[tactic(auto, unfolding(crate::specs::Host::marks_checked))]
 pub extern "C" fn udukemb_marks_check(link_record: &[u8], tape: &[u8], marks: &[u8]) -> MarksChecked
     ensures { result ≡ marks_checked link_record.now tape.now marks.now }
 {
-    let read = read_record(link_record);
-    if read.answer != answer::DONE {
-        return MarksChecked {
-            answer: read.answer,
-            yes: false,
-            agreeing: 0,
-        };
-    }
-    let link = read.link;
-    let checked = marks::check(link, tape, marks);
-    MarksChecked {
-        answer: checked.answer,
-        yes: checked.yes,
-        agreeing: checked.agreeing,
-    }
+    let link = match read_record(link_record) {
+        Ok(link) => link,
+        Err(refusal) => {
+            return MarksChecked {
+                answer: u8::from(refusal),
+                yes: false,
+                agreeing: 0,
+            };
+        }
+    };
+    checked_of(marks::check(link, tape, marks))
 }
 
 // Writes a result into the front of a lent buffer, where it came with 0 and has room.
@@ -536,13 +532,55 @@ fn give(code: u8, res: &[u8], out: &mut [u8]) -> u8
     answer::DONE
 }
 
+// Writes what a call gave into the front of a lent buffer, where it was not refused and has room.
+#[tactic(auto, using(mppe_keys::proofs::Laws::unwrapped))]
+fn give_octets<const N: usize>(answered: Result<[u8; N], Refusal>, out: &mut [u8]) -> u8
+    ensures { (result ≡ (given (number_of answered.entry)
+        (value_of (replicate N 0) answered.entry) out.old).code)
+        × (out.new ≡ (given (number_of answered.entry)
+        (value_of (replicate N 0) answered.entry) out.old).buffer) }
+{
+    let number = number_of(&answered);
+    give(number, &answered.unwrap_or([0; N]), out)
+}
+
 // A check's answer in a struct that C has.
-fn check_of(checked: Checked) -> Check
+#[tactic(auto, unfolding(crate::specs::Host::check_of))]
+fn check_of(checked: Result<bool, Refusal>) -> Check
     ensures { result ≡ check_of checked }
 {
     Check {
-        answer: checked.answer,
-        yes: checked.yes,
+        answer: number_of(&checked),
+        yes: checked.unwrap_or(false),
+    }
+}
+
+// How many octets a call wrote, in a struct that C has.
+#[tactic(auto, unfolding(crate::specs::Host::written_of))]
+fn written_of(written: Result<usize, Refusal>) -> Written
+    ensures { result ≡ written_of written }
+{
+    Written {
+        answer: number_of(&written),
+        length: written.unwrap_or(0),
+    }
+}
+
+// A check's answer about marks, in a struct that C has.
+fn checked_of(checked: Result<marks::Checked, Refusal>) -> MarksChecked
+    ensures { result ≡ checked_of checked }
+{
+    match checked {
+        Ok(found) => MarksChecked {
+            answer: answer::DONE,
+            yes: found.yes,
+            agreeing: found.agreeing,
+        },
+        Err(refusal) => MarksChecked {
+            answer: u8::from(refusal),
+            yes: false,
+            agreeing: 0,
+        },
     }
 }
 
@@ -565,40 +603,30 @@ fn direction_of(send: bool) -> Direction
 }
 
 // A start key from credentials.
+#[tactic(auto, using(mppe_keys::proofs::Laws::master_key_length, crate::proofs::Laws::placed_whole), unfolding(crate::specs::Host::start_key_from, crate::specs::Host::master_key_from, mppe_keys::specs::Answers::start_key_answer, mppe_keys::specs::Answers::key_answer, answer::specs::Answer::one_code))]
 fn start_key_from(
     strength: Strength,
     role: Role,
     direction: Direction,
     password: &[u8],
     response: &[u8],
-) -> mppe_keys::Key
+) -> Result<[u8; 16], Refusal>
     ensures { result ≡ key_answer (first_of (credential_rows password.now response.now))
         (start_key_from strength role direction password.now response.now) }
 {
-    let master = master_key_from(password, response);
-    if master.answer != answer::DONE {
-        return master;
-    }
-    let octets = master.octets;
-    mppe_keys::start_key(strength, role, direction, &octets)
+    let master = master_key_from(password, response)?;
+    mppe_keys::start_key(strength, role, direction, &master)
 }
 
 // A master key from credentials.
-fn master_key_from(password: &[u8], response: &[u8]) -> mppe_keys::Key
+#[tactic(auto, using(mschap::proofs::Laws::password_hash_length, mschap::proofs::Laws::hash_hash_length), unfolding(crate::specs::Host::master_key_from, mschap::specs::Answers::password_hash_answer, mschap::specs::Answers::hash_hash_answer, mppe_keys::specs::Answers::master_key_answer, mppe_keys::specs::Answers::key_answer, answer::specs::Answer::two_code))]
+fn master_key_from(password: &[u8], response: &[u8]) -> Result<[u8; 16], Refusal>
     ensures { result ≡ key_answer (first_of (credential_rows password.now response.now))
         (master_key_from password.now response.now) }
 {
-    let hash = mschap::password_hash(password);
-    let octets = hash.octets;
-    if hash.answer != answer::DONE {
-        return mppe_keys::Key {
-            answer: hash.answer,
-            octets,
-        };
-    }
-    let hash_hash = mschap::hash_hash(&octets);
-    let hashed = hash_hash.octets;
-    mppe_keys::master_key(&hashed, response)
+    let hash = mschap::password_hash(password)?;
+    let hash_hash = mschap::hash_hash(&hash)?;
+    mppe_keys::master_key(&hash_hash, response)
 }
 
 // Writes the option of a choice.
@@ -608,7 +636,7 @@ fn put_reply(accept: bool, choice: Choice, out: &mut [u8]) -> Reply
 {
     let mode = choice.mode;
     let strength = choice.strength;
-    let number = ccp::write(mode, ccp::only(strength), out);
+    let number = number_of(&ccp::write(mode, ccp::only(strength), out));
     if number != answer::DONE {
         return refused_reply(number);
     }
@@ -629,6 +657,16 @@ fn refused_reply(number: u8) -> Reply
         accept: false,
         bits: 0,
         stateful: false,
+    }
+}
+
+// Nothing opened, and no key change.
+fn unopened(refusal: Refusal) -> Opened
+    ensures { result ≡ unopened (number refusal) }
+{
+    Opened {
+        answer: u8::from(refusal),
+        changes: 0,
     }
 }
 

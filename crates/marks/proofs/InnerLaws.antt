@@ -8,53 +8,32 @@ use native.Mathlib.Omega.{arith}
 use lib.Dec.{eqb, ltb, eqb-suc-zero, eqb-suc-suc}
 use lib.ListN.{length, take, drop, get_or, replicate, length-append, length-drop, length-take, length-replicate}
 use lib.Seq.{take_all, take_at, take-add, drop_at, drop-drop, get_or-drop}
-use borrow.Author.Tests.{eq-eqb, ne_eqb, lt-ltb, le-ltb, eqb-true, eqb-false, not-true, not-false}
-use Rattle.answer.specs.Answer.{done, room, size, not_record, pick, outside, first_of, on_done}
-use Rattle.answer.specs.Laws.{both, outside_none, test_under}
+use borrow.Author.Tests.{eq-eqb, ne_eqb, lt-ltb, le-ltb, eqb-true, eqb-false}
+use Rattle.answer.specs.declared.Refusal.{Refusal}
+use Rattle.answer.specs.declared.Refusal.TheVariants.{Size, Room, Record}
+use Rattle.answer.specs.Answer.{done, room, not_record, pick, outside, first_of, on_done, result_of}
+use Rattle.answer.specs.Laws.{outside_none, test_under, ok_only, err_only, err_same, err_done}
 use Rattle.octets.specs.Octets.{big_endian, from_big_endian, written, written_at, equal}
 use Rattle.octets.specs.Laws.{append_more, written_more, equal_lengths, equal_same, equal_true}
-use Rattle.mppe_keys.specs.declared.Strength.TheVariants.{Bits40}
 use Rattle.mppe_keys.specs.declared.Mode.{Mode}
 use Rattle.mppe_keys.specs.declared.Mode.TheVariants.{Stateless, Stateful}
 use Rattle.mppe_keys.specs.Keys.{by_mode}
 use Rattle.mppe.specs.declared.Link.{Link}
 use Rattle.mppe.specs.declared.Outcome.{Outcome}
-use Rattle.mppe.specs.Link.{front, longest_plain, farthest, well_formed, no_link, open_result}
+use Rattle.mppe.specs.Link.{front, longest_plain, farthest, well_formed, open_result}
 use Rattle.mppe.proofs.Laws.{open_front}
-use Rattle.mppe_record.specs.declared.RecordRead.{RecordRead}
-use Rattle.mppe_record.specs.Record.{no_strength, front_octets, no_record, front_length, stateless_in, stateless_read}
+use Rattle.mppe_record.specs.Record.{no_strength, front_octets, front_length, stateless_in, stateless_read}
 use Rattle.mppe_record.proofs.Laws.{Sized}
 use Rattle.tape.specs.declared.Next.{Next}
-use Rattle.tape.specs.declared.Written.{Written}
 use Rattle.tape.specs.Tape.{shortest_packet, longest_packet, most_groups, Read, behind, on_packet, next_of, read_at, read_from, contents}
 use Rattle.tape.proofs.Laws.{read_moves, reads_on, reads_none}
 use Rattle.marks.specs.declared.Mark.{Mark}
-use Rattle.marks.specs.declared.MarkRead.{MarkRead}
-use Rattle.marks.specs.declared.Checked.{Checked}
 use Rattle.marks.specs.declared.Found.{Found}
-use Rattle.marks.specs.Marks.{every, mark_length, mark_octets, marks_octets, mark_in, no_mark, mark_read, start_at, agreeing, opened, onward, kept, marks_from, marks_of, walk_rows, write_code, write_answer, write_out, checked}
-use Rattle.marks.specs.Inner.{Begins, found, agreed_on}
+use Rattle.marks.specs.Marks.{every, mark_length, mark_octets, marks_octets, mark_in, mark_read, start_at, agreeing, opened, onward, kept, marks_from, marks_of, walk_rows, write_code, write_answer, write_out, checked}
+use Rattle.std.specs.Prelude.{Option, Some, None, Result, Ok, Err}
+use Rattle.std.specs.Int.{w64, from_be_bytes}
+use Rattle.marks.specs.Inner.{Begins, ahead, found, agreed_on}
 use Rattle.marks.proofs.Laws.{Whole, mark_length_lem, octets_append, onward_whole, onward_opened, kept_is, kept_count, WholeOctets, whole_none, whole_append, kept_whole, marks_length}
-
--- one more, or not
-pub counted_done : (code n : ℕ) → code ≡ done → n + 1 ≡ on_done code (suc n) n
-counted_done code n e = rw (e, add-one)
-
-pub counted_not : (code n : ℕ) → (code ≡ done → ⊥) → n ≡ on_done code (suc n) n
-counted_not zero n e = absurd (e refl)
-counted_not (suc c) n e = refl
-
--- a record that a walk may begin with
-pub begins_ill : {t : Bool} (start : Link) → t ≡ well_formed start → not t ≡ true → false ≡ (well_formed start && by_mode start.mode true false)
-begins_ill {t} start e h = rw (sym e ∙ not-true t h)
-
-pub begins_well : {t s : Bool} (start : Link) → t ≡ well_formed start → not t ≡ false → s ≡ by_mode start.mode false true
-    → not s ≡ (well_formed start && by_mode start.mode true false)
-begins_well {t} start e h es = rw (sym e ∙ not-false t h, es) (by start.mode)
-  where
-    by : (m : Mode) → not (by_mode m false true) ≡ by_mode m true false
-    by Stateless = refl
-    by Stateful = refl
 
 -- opened by its front and its protocol octets
 pub cut_opened : {o : Outcome} (limit far : ℕ) (l : Link) (packet : List ℕ) → l.mode ≡ Stateless → outside shortest_packet (front + limit) (length packet) ≡ false
@@ -66,13 +45,6 @@ cut_opened limit far l packet mode inside e =
     e ∙ sym (open_front limit far l packet room (replicate 2 0) mode inside enough (omega arith))
 
 -- whether there is a packet
-pub packet_there : {p : List ℕ} (r : Read) → p ≡ r.packet → not (eqb (length p) 0) ≡ on_packet r.packet true false
-packet_there {p} r e = rw (← e) (by p)
-  where
-    by : (q : List ℕ) → not (eqb (length q) 0) ≡ on_packet q true false
-    by [] = refl
-    by (x ∷ q) = rw (eqb-suc-zero (length q))
-
 pub packet_some : (p : List ℕ) → on_packet p true false ≡ true → p ≡ [] → ⊥
 packet_some [] h e = true≢false (sym h)
 packet_some (x ∷ p) h e = omega (arith, ap (λ (l : List ℕ). length l) e)
@@ -89,16 +61,62 @@ packet_fits {packet} k limit fits tape o some e =
     let size : length packet ≡ length (read_at k (front + limit) tape o).packet = ap length e in
     outside_none shortest_packet (front + limit) (length packet) (omega (arith, fit.0)) (omega (arith, fit.1))
 
--- a walk behind the packet at its offset
+-- a walk behind the packet at its offset, or where there is none
+pub advances_none : {packet : List ℕ} (k limit far : ℕ) (m : Mark) (tape : List ℕ) → packet ≡ (read_at k (front + limit) tape m.offset).packet → length packet ≡ 0
+    → None ≡ ahead k limit far m tape
+unfolding ahead
+advances_none k limit far m tape e none =
+    by (read_at k (front + limit) tape m.offset).packet (onward k limit far m (read_at k (front + limit) tape m.offset).packet) (ap length (sym e) ∙ none)
+  where
+    by : (p : List ℕ) (x : Mark) → length p ≡ 0 → None ≡ on_packet p (Some x) None
+    by [] x h = refl
+    by (y ∷ p) x h = absurd (omega arith)
+
+pub there : {packet : List ℕ} (k limit : ℕ) (tape : List ℕ) (o : ℕ) → packet ≡ (read_at k (front + limit) tape o).packet → (length packet ≡ 0 → ⊥)
+    → on_packet (read_at k (front + limit) tape o).packet true false ≡ true
+there k limit tape o e some = by (read_at k (front + limit) tape o).packet (λ z. some (ap length e ∙ z))
+  where
+    by : (p : List ℕ) → (length p ≡ 0 → ⊥) → on_packet p true false ≡ true
+    by [] h = absurd (h refl)
+    by (y ∷ p) h = refl
+
+pub ahead_some : {next : Mark} (k limit far : ℕ) (m : Mark) (tape : List ℕ) → Some next ≡ ahead k limit far m tape
+    → (on_packet (read_at k (front + limit) tape m.offset).packet true false ≡ true) × (next ≡ onward k limit far m (read_at k (front + limit) tape m.offset).packet)
+unfolding ahead
+ahead_some {next} k limit far m tape e =
+    by (read_at k (front + limit) tape m.offset).packet (onward k limit far m (read_at k (front + limit) tape m.offset).packet) e
+  where
+    by : (p : List ℕ) (x : Mark) → Some next ≡ on_packet p (Some x) None → (on_packet p true false ≡ true) × (next ≡ x)
+    by [] x e = absurd (cc)
+    by (y ∷ p) x e = (refl, cc)
+
+pub ahead_none : (k limit far : ℕ) (m : Mark) (tape : List ℕ) → None ≡ ahead k limit far m tape
+    → on_packet (read_at k (front + limit) tape m.offset).packet true false ≡ false
+unfolding ahead
+ahead_none k limit far m tape e =
+    by (read_at k (front + limit) tape m.offset).packet (onward k limit far m (read_at k (front + limit) tape m.offset).packet) e
+  where
+    by : (p : List ℕ) (x : Mark) → None ≡ on_packet p (Some x) None → on_packet p true false ≡ false
+    by [] x e = refl
+    by (y ∷ p) x e = absurd (cc)
+
 pub advances : {next : Next} {packet : List ℕ} {o : Outcome} {count : ℕ} (k limit far : ℕ) → front + limit < 128 ^ k → (m : Mark) (tape : List ℕ)
     → on_packet (read_at k (front + limit) tape m.offset).packet true false ≡ true → next ≡ next_of (read_at k (front + limit) tape m.offset)
     → packet ≡ (read_at k (front + limit) tape m.offset).packet → o ≡ (open_result limit far m.link packet (replicate (length packet - front) 0)).outcome
     → count ≡ on_done o.answer (suc m.opened) m.opened
-    → ◌≡◌ {A = Mark} (record { opened = count; offset = next.offset; link = o.link }) (onward k limit far m (read_at k (front + limit) tape m.offset).packet)
-unfolding onward opened next_of
-advances k limit far fits m tape some en ep eo ec =
-    let (_, on, _, _) = read_moves k (front + limit) fits tape m.offset (packet_some _ some) in
-    rw (ec, eo, ep, en, on)
+    → ◌≡◌ {A = Option Mark} (Some (record { opened = count; offset = next.offset; link = o.link })) (ahead k limit far m tape)
+unfolding ahead
+advances {next} {packet} {o} {count} k limit far fits m tape some en ep eo ec =
+    ap Some is ∙ by (read_at k (front + limit) tape m.offset).packet (onward k limit far m (read_at k (front + limit) tape m.offset).packet) some
+  where
+    is : ◌≡◌ {A = Mark} (record { opened = count; offset = next.offset; link = o.link }) (onward k limit far m (read_at k (front + limit) tape m.offset).packet)
+    is =
+        let (_, on, _, _) = read_moves k (front + limit) fits tape m.offset (packet_some _ some) in
+        unfold onward in unfold opened in unfold next_of in rw (ec, eo, ep, en, on)
+
+    by : (p : List ℕ) (x : Mark) → on_packet p true false ≡ true → Some x ≡ on_packet p (Some x) None
+    by [] x e = absurd (true≢false (sym e))
+    by (y ∷ p) x e = refl
 
 -- a mark as octets
 pub mark_laid : {opened offset front t₁ t₂ t₃ : List ℕ} (m : Mark) → opened ≡ big_endian 8 m.opened → offset ≡ big_endian 8 m.offset
@@ -128,118 +146,69 @@ pub beyond_list : (octets marks : List ℕ) (at : ℕ) → length octets ≡ mar
 beyond_list octets marks at h short =
     equal_lengths octets (take mark_length (drop at marks)) (λ e. omega (arith, h, e, length-take mark_length (drop at marks), length-drop at marks))
 
-pub stands_is : {t : Bool} (octets marks : List ℕ) (at : ℕ) → t ≡ equal octets (take (at + mark_length - at) (drop at marks))
-    → t ≡ equal octets (take mark_length (drop at marks))
-stands_is octets marks at e =
-    let size : at + mark_length - at ≡ mark_length = omega arith in
-    e ∙ ap (λ n. equal octets (take n (drop at marks))) size
-
--- one more that agrees, or not
-pub agreed_early : (m : Mark) (marks : List ℕ) (n : ℕ) → (n + 1 ≡ m.opened / every → ⊥) → n ≡ agreed_on m marks n
-unfolding agreed_on
-agreed_early m marks n h = rw (ne_eqb (suc n) (m.opened / every) (λ e. h (add-one n ∙ e)))
-
-pub agreed_not : {t : Bool} {octets : List ℕ} (m : Mark) (marks : List ℕ) (n : ℕ) → n + 1 ≡ m.opened / every → octets ≡ mark_octets m
-    → t ≡ equal octets (take mark_length (drop (mark_length * n) marks)) → not t ≡ true → n ≡ agreed_on m marks n
-unfolding agreed_on
-agreed_not {t} m marks n e eo et h = rw (eq-eqb (suc n) (m.opened / every) (sym (add-one n) ∙ e), ← eo, sym et ∙ not-true t h)
-
-pub agreed_yes : {t : Bool} {octets : List ℕ} (m : Mark) (marks : List ℕ) (n : ℕ) → n + 1 ≡ m.opened / every → octets ≡ mark_octets m
-    → t ≡ equal octets (take mark_length (drop (mark_length * n) marks)) → not t ≡ false → m.opened / every ≡ agreed_on m marks n
-unfolding agreed_on
-agreed_yes {t} m marks n e eo et h = rw (eq-eqb (suc n) (m.opened / every) (sym (add-one n) ∙ e), ← eo, sym et ∙ not-false t h) (sym e ∙ add-one n)
-
 -- eight octets as a number
-pub long_is : {high low : ℕ} (octets : List ℕ) → length octets ≡ 8
-    → high ≡ from_big_endian (get_or octets 0 0 ∷ get_or octets 1 0 ∷ get_or octets 2 0 ∷ get_or octets 3 0 ∷ [])
-    → low ≡ from_big_endian (get_or octets 4 0 ∷ get_or octets 5 0 ∷ get_or octets 6 0 ∷ get_or octets 7 0 ∷ [])
-    → high * 4294967296 + low ≡ from_big_endian octets
-long_is [] h eh el = absurd (omega arith)
-long_is (a ∷ []) h eh el = absurd (omega arith)
-long_is (a ∷ b ∷ []) h eh el = absurd (omega arith)
-long_is (a ∷ b ∷ c ∷ []) h eh el = absurd (omega arith)
-long_is (a ∷ b ∷ c ∷ d ∷ []) h eh el = absurd (omega arith)
-long_is (a ∷ b ∷ c ∷ d ∷ e ∷ []) h eh el = absurd (omega arith)
-long_is (a ∷ b ∷ c ∷ d ∷ e ∷ f ∷ []) h eh el = absurd (omega arith)
-long_is (a ∷ b ∷ c ∷ d ∷ e ∷ f ∷ g ∷ []) h eh el = absurd (omega arith)
-long_is (a ∷ b ∷ c ∷ d ∷ e ∷ f ∷ g ∷ i ∷ []) h eh el = rw (eh, el) (omega arith)
-long_is (a ∷ b ∷ c ∷ d ∷ e ∷ f ∷ g ∷ i ∷ x ∷ xs) h eh el = absurd (omega arith)
-
--- no mark
-pub no_mark_is : {l : Link} (code : ℕ) → l ≡ no_link Bits40 Stateless
-    → ◌≡◌ {A = MarkRead} (record { answer = code; mark = record { opened = 0; offset = 0; link = l } }) (record { answer = code; mark = no_mark })
-no_mark_is code e = rw e
+pub long_is : (octets : List ℕ) → length octets ≡ 8 → from_be_bytes w64 octets ≡ from_big_endian octets
+long_is [] h = absurd (omega arith)
+long_is (a ∷ []) h = absurd (omega arith)
+long_is (a ∷ b ∷ []) h = absurd (omega arith)
+long_is (a ∷ b ∷ c ∷ []) h = absurd (omega arith)
+long_is (a ∷ b ∷ c ∷ d ∷ []) h = absurd (omega arith)
+long_is (a ∷ b ∷ c ∷ d ∷ e ∷ []) h = absurd (omega arith)
+long_is (a ∷ b ∷ c ∷ d ∷ e ∷ f ∷ []) h = absurd (omega arith)
+long_is (a ∷ b ∷ c ∷ d ∷ e ∷ f ∷ g ∷ []) h = absurd (omega arith)
+long_is (a ∷ b ∷ c ∷ d ∷ e ∷ f ∷ g ∷ i ∷ []) h = omega arith
+long_is (a ∷ b ∷ c ∷ d ∷ e ∷ f ∷ g ∷ i ∷ x ∷ xs) h = absurd (omega arith)
 
 -- octets that hold no mark, by their number, their strength and their record, and octets that hold one
-pub mark_size : {r : MarkRead} (octets : List ℕ) → (length octets ≡ mark_length → ⊥) → r ≡ record { answer = size; mark = no_mark } → r ≡ mark_read octets
+pub size_told : (octets : List ℕ) → (length octets ≡ mark_length → ⊥) → mark_read octets ≡ Err Size
 unfolding mark_read
-mark_size octets h e = e ∙ rw (ne_eqb (length octets) mark_length h)
+size_told octets h = rw (ne_eqb (length octets) mark_length h)
 
 -- what is read of the link's octets
-link_read : (octets : List ℕ) → length octets ≡ mark_length
-    → stateless_read (take (length octets - 16) (drop 16 octets))
-    ≡ on_done (first_of ((not_record, no_strength (get_or octets 16 0)) ∷ [])) (record { answer = done; link = stateless_in (drop 16 octets) }) no_record
+abbrev pub held_in : List ℕ → Result Link Refusal
+held_in octets = stateless_read (take (length octets - 16) (drop 16 octets))
+
+held_is : (octets : List ℕ) → length octets ≡ mark_length
+    → held_in octets ≡ result_of (first_of ((not_record, no_strength (get_or octets 16 0)) ∷ [])) (stateless_in (drop 16 octets))
 unfolding stateless_read
-link_read octets h =
+held_is octets h =
     let all : take (length octets - 16) (drop 16 octets) ≡ drop 16 octets = take_all (length octets - 16) (drop 16 octets) (omega (arith, length-drop 16 octets)) in
     let long : length (drop 16 octets) ≡ front_length = omega (arith, length-drop 16 octets) in
     rw (all, eq-eqb (length (drop 16 octets)) front_length long, get_or-drop 16 octets 0 0)
 
-module _ {held : RecordRead} (octets : List ℕ) (h : length octets ≡ mark_length) (eh : held ≡ stateless_read (take (length octets - 16) (drop 16 octets))) where
-  told : (t : Bool) → no_strength (get_or octets 16 0) ≡ t → held ≡ on_done (first_of ((not_record, t) ∷ [])) (record { answer = done; link = stateless_in (drop 16 octets) }) no_record
-  told t e = eh ∙ link_read octets h ∙ ap (λ u. on_done (first_of ((not_record, u) ∷ [])) (record { answer = done; link = stateless_in (drop 16 octets) }) no_record) e
+-- it has a strength or has none, and the link is read
+weak : (t : Bool) → (first_of ((not_record, t) ∷ []) ≡ done → ⊥) → t ≡ true
+weak true h = refl
+weak false h = absurd (h refl)
 
-  pub mark_weak : {r : MarkRead} → (held.answer ≡ done → ⊥) → r ≡ record { answer = not_record; mark = no_mark } → r ≡ mark_read octets
-  unfolding mark_read
-  mark_weak refused e = e ∙ by (no_strength (get_or octets 16 0)) refl
-    where
-      by : (t : Bool) → no_strength (get_or octets 16 0) ≡ t → record { answer = not_record; mark = no_mark } ≡ mark_read octets
-      by true e = rw (eq-eqb (length octets) mark_length h, e)
-      by false e = absurd (refused (ap (λ (x : RecordRead). x.answer) (told false e)))
+strong : (t : Bool) → first_of ((not_record, t) ∷ []) ≡ done → t ≡ false
+strong true h = absurd (omega (arith, h))
+strong false h = refl
 
-  -- it has a strength, and the link is read
-  strong : held.answer ≡ done → (no_strength (get_or octets 16 0) ≡ false) × (held.link ≡ stateless_in (drop 16 octets))
-  strong ok = by (no_strength (get_or octets 16 0)) refl
-    where
-      by : (t : Bool) → no_strength (get_or octets 16 0) ≡ t → (no_strength (get_or octets 16 0) ≡ false) × (held.link ≡ stateless_in (drop 16 octets))
-      by true e = absurd (omega (arith, sym (ap (λ (x : RecordRead). x.answer) (told true e)) ∙ ok))
-      by false e = (e, ap (λ (x : RecordRead). x.link) (told false e))
+pub weak_told : {e : Refusal} (octets : List ℕ) → length octets ≡ mark_length → held_in octets ≡ Err e → mark_read octets ≡ Err e
+unfolding mark_read
+weak_told octets h ee =
+    let t : Bool = no_strength (get_or octets 16 0) in
+    let held = sym (held_is octets h) ∙ ee in
+    let some = weak t (err_only (first_of ((not_record, t) ∷ [])) (stateless_in (drop 16 octets)) held) in
+    rw (eq-eqb (length octets) mark_length h, some) (err_same not_record (stateless_in (drop 16 octets)) (mark_in octets) (rw some at held))
 
-  pub mark_ill : {r : MarkRead} {well : Bool} → held.answer ≡ done → well ≡ well_formed held.link → not well ≡ true
-      → r ≡ record { answer = not_record; mark = no_mark } → r ≡ mark_read octets
-  unfolding mark_read mark_in
-  mark_ill {well = well} ok ew ill e =
-      let (some, link) = strong ok in
-      let t : not (well_formed (stateless_in (drop 16 octets))) ≡ true = rw (← link, ← ew) ill in
-      e ∙ rw (eq-eqb (length octets) mark_length h, some, t)
+pub ill_told : {l : Link} (octets : List ℕ) → length octets ≡ mark_length → held_in octets ≡ Ok l → well_formed l ≡ false
+    → mark_read octets ≡ Err Record
+unfolding mark_read mark_in
+ill_told octets h el ill =
+    let t : Bool = no_strength (get_or octets 16 0) in
+    let (none, link) = ok_only (first_of ((not_record, t) ∷ [])) (stateless_in (drop 16 octets)) (sym (held_is octets h) ∙ el) in
+    rw (eq-eqb (length octets) mark_length h, strong t none, link, ill)
 
-  pub mark_held : {opened offset : ℕ} {well : Bool} → held.answer ≡ done → well ≡ well_formed held.link → not well ≡ false
-      → opened ≡ from_big_endian (take 8 octets) → offset ≡ from_big_endian (take 8 (drop 8 octets))
-      → ◌≡◌ {A = MarkRead} (record { answer = done; mark = record { opened = opened; offset = offset; link = held.link } }) (mark_read octets)
-  unfolding mark_read mark_in
-  mark_held {well = well} ok ew fine eo ef =
-      let (some, link) = strong ok in
-      let t : not (well_formed (stateless_in (drop 16 octets))) ≡ false = rw (← link, ← ew) fine in
-      rw (eq-eqb (length octets) mark_length h, some, t, eo, ef, link)
-
--- the same by what is read of the link's octets, as the check applies it by itself
-abbrev pub held_in : List ℕ → RecordRead
-held_in octets = stateless_read (take (length octets - 16) (drop 16 octets))
-
-pub size_told : (octets : List ℕ) → (length octets ≡ mark_length → ⊥) → mark_read octets ≡ record { answer = size; mark = no_mark }
-size_told octets h = sym (mark_size octets h refl)
-
-pub weak_told : (octets : List ℕ) → length octets ≡ mark_length → ((held_in octets).answer ≡ done → ⊥) → mark_read octets ≡ record { answer = not_record; mark = no_mark }
-weak_told octets h refused = sym (mark_weak octets h refl refused refl)
-
-pub ill_told : (octets : List ℕ) → length octets ≡ mark_length → (held_in octets).answer ≡ done → well_formed (held_in octets).link ≡ false
-    → mark_read octets ≡ record { answer = not_record; mark = no_mark }
-ill_told octets h ok ill = sym (mark_ill octets h refl ok refl (ap not ill) refl)
-
-pub held_told : (octets : List ℕ) → length octets ≡ mark_length → (held_in octets).answer ≡ done → well_formed (held_in octets).link ≡ true
+pub held_told : {l : Link} (octets : List ℕ) → length octets ≡ mark_length → held_in octets ≡ Ok l → well_formed l ≡ true
     → mark_read octets
-    ≡ record { answer = done; mark = record { opened = from_big_endian (take 8 octets); offset = from_big_endian (take 8 (drop 8 octets)); link = (held_in octets).link } }
-held_told octets h ok well = sym (mark_held octets h refl ok refl (ap not well) refl refl)
+    ≡ Ok (record { opened = from_big_endian (take 8 octets); offset = from_big_endian (take 8 (drop 8 octets)); link = l })
+unfolding mark_read mark_in
+held_told octets h el well =
+    let t : Bool = no_strength (get_or octets 16 0) in
+    let (none, link) = ok_only (first_of ((not_record, t) ∷ [])) (stateless_in (drop 16 octets)) (sym (held_is octets h) ∙ el) in
+    rw (eq-eqb (length octets) mark_length h, strong t none, link, well)
 
 pub ruleset told_rules = (size_told, weak_told, ill_told, held_told)
 
@@ -376,25 +345,19 @@ pub puts_first : (start : Link) (tape out : List ℕ) → Whole start → Puts s
 unfolding marks_octets
 puts_first start tape out whole = ([], walks_first most_groups longest_plain farthest fits start tape whole, refl)
 
--- a loop's step: what is known of it, and that it moves on
-pub record Stepped (tape : List ℕ) (at next : Mark) (t : Bool) : Type 0 where
-  pub some : on_packet (read_at most_groups longest_packet tape at.offset).packet true false ≡ true
-  pub next_is : next ≡ onward most_groups longest_plain farthest at (read_at most_groups longest_packet tape at.offset).packet
-  pub test : t ≡ ltb (at.opened / every) (next.opened / every)
-
-pub stepped : {next : Mark} {here t : Bool} (tape : List ℕ) (at : Mark) → here ≡ on_packet (read_at most_groups longest_packet tape at.offset).packet true false → here ≡ true
-    → next ≡ onward most_groups longest_plain farthest at (read_at most_groups longest_packet tape at.offset).packet
-    → t ≡ ltb (at.opened / every) (next.opened / every) → Stepped tape at next t
-stepped tape at eh h en et = record { some = sym eh ∙ h; next_is = en; test = et }
-
+-- what the loops' invariant says of the record
 pub begins_walk : {start : Link} {tape : List ℕ} {at : Mark} {ms : List Mark} → Walks most_groups longest_plain farthest fits start tape at ms
     → Begins at.link × (at.opened < at.offset)
-begins_walk w = ((w.whole.0, w.whole.1), w.few)
+begins_walk w = (w.whole, w.few)
 
-module _ {next : Mark} {t : Bool} (start : Link) (tape : List ℕ) (at : Mark) (s : Stepped tape at next t) where
+-- a loop's step, by what is ahead and whether a mark is kept behind it
+module _ {next : Mark} {t : Bool} (start : Link) (tape : List ℕ) (at : Mark) (step : Some next ≡ ahead most_groups longest_plain farthest at tape)
+    (test : t ≡ ltb (at.opened / every) (next.opened / every)) where
   on : (ms : List Mark) → Walks most_groups longest_plain farthest fits start tape at ms → (b : Bool) → t ≡ b
       → Walks most_groups longest_plain farthest fits start tape next (ms ++ pick b (next ∷ []) []) × (at.offset < next.offset) × (next.offset ≤ length tape)
-  on ms w = further start tape at ms w s.some s.next_is s.test
+  on ms w =
+      let (some, is) = ahead_some most_groups longest_plain farthest at tape step in
+      further start tape at ms w some is test
 
   pub goes_down : (ms : List Mark) → Walks most_groups longest_plain farthest fits start tape at ms → suc (length tape) - next.offset < suc (length tape) - at.offset
   goes_down ms w = let (_, low, high) = on ms w t refl in omega (arith, low, high)
@@ -451,43 +414,46 @@ module _ {next : Mark} {t : Bool} (start : Link) (tape : List ℕ) (at : Mark) (
   puts_not out (ms, w, e) none = (ms, rw append-nil at (on ms w false none).0, e)
 
 -- the ends of the loops
-pub compares_last : {here : Bool} {n : ℕ} {last : Next} (start : Link) (tape marks : List ℕ) (at : Mark) → Compares start tape marks at n
-    → here ≡ on_packet (read_at most_groups longest_packet tape at.offset).packet true false → here ≡ false
-    → last ≡ next_of (read_at most_groups longest_packet tape at.offset)
-    → (◌≡◌ {A = Found} (record { answer = last.answer; marks = at.opened / every; agreeing = n }) (found most_groups longest_plain farthest start tape marks))
-    × (mark_length * (at.opened / every) ≤ length tape)
-unfolding found next_of
-compares_last start tape marks at (ms, w, e) eh h el =
-    let (all, answer) = walks_last most_groups longest_plain farthest fits start tape at ms w (sym eh ∙ h) in
-    (rw (all, answer, el, e, ← w.number), omega (arith, w.few, w.near))
+module _ {n : ℕ} (start : Link) (tape marks : List ℕ) (at : Mark) (all : Compares start tape marks at n)
+    (end : None ≡ ahead most_groups longest_plain farthest at tape) where
+  compared_all : (marks_of most_groups longest_plain farthest start tape ≡ all.0)
+      × ((contents most_groups longest_packet tape).answer ≡ (read_at most_groups longest_packet tape at.offset).answer)
+  compared_all = walks_last most_groups longest_plain farthest fits start tape at all.0 all.1 (ahead_none most_groups longest_plain farthest at tape end)
 
-pub puts_last : {here : Bool} {now : List ℕ} (start : Link) (tape out : List ℕ) (at : Mark) → Puts start tape out at now
-    → here ≡ on_packet (read_at most_groups longest_packet tape at.offset).packet true false → here ≡ false
+  pub compares_fits : mark_length * (at.opened / every) ≤ length tape
+  compares_fits = omega (arith, all.1.few, all.1.near)
+
+  module _ {last : Next} (el : last ≡ next_of (read_at most_groups longest_packet tape at.offset)) where
+    last_read : {r : Result (Unit {0}) Refusal} → last.answer ≡ r → result_of (contents most_groups longest_packet tape).answer tt ≡ r
+    unfolding next_of
+    last_read e = ap (λ a. result_of {A = Unit {0}} a tt) (compared_all.1) ∙ sym (ap (λ (x : Next). x.answer) el) ∙ e
+
+    pub compares_last : {u : Unit {0}} → last.answer ≡ Ok u
+        → Ok (record { marks = at.opened / every; agreeing = n }) ≡ found most_groups longest_plain farthest start tape marks
+    unfolding found
+    compares_last e = rw ((ok_only (contents most_groups longest_packet tape).answer tt (last_read e)).0, compared_all.0, all.2, ← all.1.number)
+
+    pub compares_fault : {refusal : Refusal} → last.answer ≡ Err refusal → Err refusal ≡ found most_groups longest_plain farthest start tape marks
+    unfolding found
+    compares_fault e = sym (err_same (contents most_groups longest_packet tape).answer tt _ (last_read e))
+
+pub puts_last : {now : List ℕ} (start : Link) (tape out : List ℕ) (at : Mark) → Puts start tape out at now
+    → None ≡ ahead most_groups longest_plain farthest at tape
     → now ≡ written (marks_octets (marks_of most_groups longest_plain farthest start tape)) out
-puts_last start tape out at (ms, w, e) eh h =
-    let (all, _) = walks_last most_groups longest_plain farthest fits start tape at ms w (sym eh ∙ h) in
+puts_last start tape out at (ms, w, e) end =
+    let (all, _) = walks_last most_groups longest_plain farthest fits start tape at ms w (ahead_none most_groups longest_plain farthest at tape end) in
     e ∙ ap (λ l. written (marks_octets l) out) (sym all)
 
 pub written_size : {now : List ℕ} (list out : List ℕ) → length list ≤ length out → now ≡ written list out → length now ≡ length out
 written_size list out room e = ap length e ∙ simp (length-append, length-drop) (omega (arith, room))
-
--- what the start record says
-pub begins_told : {t : Bool} (start : Link) → t ≡ (well_formed start && by_mode start.mode true false) → not t ≡ false → Begins start
-begins_told {t} start e h =
-    let (well, stateless) = both (well_formed start) (by_mode start.mode true false) (sym e ∙ not-false t h) in
-    (well, by start.mode stateless)
-  where
-    by : (m : Mode) → by_mode m true false ≡ true → m ≡ Stateless
-    by Stateless h = refl
-    by Stateful h = absurd (true≢false (sym h))
 
 -- the rows of a walk: a record that none may begin with, and those behind
 module _ (start : Link) (tape : List ℕ) (rest : List (ℕ × Bool)) where
   abbrev rows : List (ℕ × Bool)
   rows = walk_rows most_groups longest_plain farthest start tape ++ rest
 
-  rows_ill : {t : Bool} → t ≡ (well_formed start && by_mode start.mode true false) → not t ≡ true → first_of rows ≡ not_record
-  rows_ill {t} e h = by (well_formed start) start.mode (sym e ∙ not-true t h)
+  rows_ill : {t : Bool} → t ≡ (well_formed start && by_mode start.mode true false) → t ≡ false → first_of rows ≡ not_record
+  rows_ill e h = by (well_formed start) start.mode (sym e ∙ h)
     where
       last : List (ℕ × Bool)
       last = ((contents most_groups longest_packet tape).answer, not (eqb (contents most_groups longest_packet tape).answer done)) ∷ rest
@@ -498,7 +464,7 @@ module _ (start : Link) (tape : List ℕ) (rest : List (ℕ × Bool)) where
       by false m h = refl
 
   rows_begun : Begins start → (a : ℕ) → (contents most_groups longest_packet tape).answer ≡ a → first_of rows ≡ on_done a (first_of rest) a
-  rows_begun (well, mode) a e = by (well_formed start) start.mode well mode (contents most_groups longest_packet tape).answer e
+  rows_begun (well, mode, _) a e = by (well_formed start) start.mode well mode (contents most_groups longest_packet tape).answer e
     where
       fault : (a : ℕ) → pick (not (eqb a done)) a (first_of rest) ≡ on_done a (first_of rest) a
       fault zero = refl
@@ -570,99 +536,94 @@ module _ (start : Link) (tape marks : List ℕ) (whole : Whole start) where
       by true q = absurd (h (ap (λ l. agreeing all l) (sym (equal_true (marks_octets all) marks q)) ∙ all_own))
       by false q = refl
 
+-- the refusal of a tape is that of the rows, if a walk may begin
+faulty : {A B : Type 0} {refusal : Refusal} (a rest : ℕ) (x : A) (y : B) → result_of a x ≡ Err refusal → result_of (on_done a rest a) y ≡ Err refusal
+faulty {refusal = r} a rest x y e = by a (err_only a x e) (err_same a x y e)
+  where
+    by : (a : ℕ) → (a ≡ done → ⊥) → result_of a y ≡ Err r → result_of (on_done a rest a) y ≡ Err r
+    by zero fault e = absurd (fault refl)
+    by (suc n) fault e = e
+
 -- the ways out of a check
 module _ (start : Link) (tape marks : List ℕ) where
-  pub check_ill : {t : Bool} {r : Checked} → t ≡ (well_formed start && by_mode start.mode true false) → not t ≡ true
-      → r ≡ record { answer = not_record; yes = false; agreeing = 0 } → r ≡ checked most_groups longest_plain farthest start tape marks
+  pub check_ill : {t : Bool} → t ≡ (well_formed start && by_mode start.mode true false) → t ≡ false
+      → Err Record ≡ checked most_groups longest_plain farthest start tape marks
   unfolding checked
-  check_ill e h er = er ∙ rw (rows_ill start tape [] e h)
+  check_ill e h = rw (rows_ill start tape [] e h)
 
-  module _ {w : Found} (begun : Begins start) (ew : w ≡ found most_groups longest_plain farthest start tape marks) where
-    answered : (contents most_groups longest_packet tape).answer ≡ w.answer
-    unfolding found
-    answered = sym (ap (λ (f : Found). f.answer) ew)
-
-    pub check_faulty : {r : Checked} → (w.answer ≡ done → ⊥) → r ≡ record { answer = w.answer; yes = false; agreeing = 0 }
-        → r ≡ checked most_groups longest_plain farthest start tape marks
-    unfolding checked
-    check_faulty fault er =
-        let code = rows_begun start tape [] begun w.answer answered in
-        er ∙ rw code (by w.answer fault)
-      where
-        by : (a : ℕ) → (a ≡ done → ⊥)
-            → ◌≡◌ {A = Checked} (record { answer = a; yes = false; agreeing = 0 })
-            (record { answer = on_done a done a; yes = on_done (on_done a done a) (equal (marks_octets (marks_of most_groups longest_plain farthest start tape)) marks) false; agreeing = on_done (on_done a done a) (agreeing (marks_of most_groups longest_plain farthest start tape) marks) 0 })
-        by zero fault = absurd (fault refl)
-        by (suc n) fault = refl
-
-    found_done : w.answer ≡ done → (b : Bool) → b ≡ equal (marks_octets (marks_of most_groups longest_plain farthest start tape)) marks
-        → ◌≡◌ {A = Checked} (record { answer = done; yes = b; agreeing = w.agreeing }) (checked most_groups longest_plain farthest start tape marks)
+  module _ (begun : Begins start) where
+    pub check_faulty : {refusal : Refusal} → Err refusal ≡ found most_groups longest_plain farthest start tape marks
+        → Err refusal ≡ checked most_groups longest_plain farthest start tape marks
     unfolding checked found
-    found_done ok b e =
-        let code = rows_begun start tape [] begun done (answered ∙ ok) in
-        rw (code, e, ew)
+    check_faulty e =
+        let code = rows_begun start tape [] begun (contents most_groups longest_packet tape).answer refl in
+        rw code (sym (faulty (contents most_groups longest_packet tape).answer done _ _ (sym e)))
 
-    pub check_same : Whole start → w.answer ≡ done → w.agreeing ≡ w.marks
-        → ◌≡◌ {A = Checked} (record { answer = done; yes = eqb (length marks) (mark_length * w.marks); agreeing = w.agreeing }) (checked most_groups longest_plain farthest start tape marks)
-    unfolding found
-    check_same whole ok e =
-        let count = ap (λ (f : Found). f.marks) ew in
-        let agree = sym (ap (λ (f : Found). f.agreeing) ew) ∙ e ∙ count in
-        found_done ok (eqb (length marks) (mark_length * w.marks)) (ap (λ n. eqb (length marks) (mark_length * n)) count ∙ yes_length start tape marks whole agree)
+    module _ {w : Found} (ew : Ok w ≡ found most_groups longest_plain farthest start tape marks) where
+      walked : ((contents most_groups longest_packet tape).answer ≡ done)
+          × (w.marks ≡ length (marks_of most_groups longest_plain farthest start tape))
+          × (w.agreeing ≡ agreeing (marks_of most_groups longest_plain farthest start tape) marks)
+      unfolding found
+      walked =
+          let (ok, is) = ok_only (contents most_groups longest_packet tape).answer _ (sym ew) in
+          (ok, sym (ap (λ (f : Found). f.marks) is), sym (ap (λ (f : Found). f.agreeing) is))
 
-    pub check_other : Whole start → w.answer ≡ done → (w.agreeing ≡ w.marks → ⊥)
-        → ◌≡◌ {A = Checked} (record { answer = done; yes = eqb w.agreeing w.marks; agreeing = w.agreeing }) (checked most_groups longest_plain farthest start tape marks)
-    unfolding found
-    check_other whole ok h =
-        let count = ap (λ (f : Found). f.marks) ew in
-        let agree = ap (λ (f : Found). f.agreeing) ew in
-        found_done ok (eqb w.agreeing w.marks)
-        (ne_eqb w.agreeing w.marks h ∙ yes_not start tape marks whole (λ z. h (agree ∙ z ∙ sym count)))
+      found_done : (b : Bool) → b ≡ equal (marks_octets (marks_of most_groups longest_plain farthest start tape)) marks
+          → Ok (record { yes = b; agreeing = w.agreeing }) ≡ checked most_groups longest_plain farthest start tape marks
+      unfolding checked
+      found_done b e = rw (rows_begun start tape [] begun done walked.0, e, walked.2)
+
+      pub check_same : w.agreeing ≡ w.marks
+          → Ok (record { yes = eqb (length marks) (mark_length * w.marks); agreeing = w.agreeing }) ≡ checked most_groups longest_plain farthest start tape marks
+      check_same e =
+          let (_, count, agree) = walked in
+          found_done (eqb (length marks) (mark_length * w.marks))
+          (ap (λ n. eqb (length marks) (mark_length * n)) count ∙ yes_length start tape marks begun (sym agree ∙ e ∙ count))
+
+      pub check_other : (w.agreeing ≡ w.marks → ⊥)
+          → Ok (record { yes = eqb w.agreeing w.marks; agreeing = w.agreeing }) ≡ checked most_groups longest_plain farthest start tape marks
+      check_other h =
+          let (_, count, agree) = walked in
+          found_done (eqb w.agreeing w.marks) (ne_eqb w.agreeing w.marks h ∙ yes_not start tape marks begun (λ z. h (agree ∙ z ∙ sym count)))
 
 -- and of a write
 module _ (start : Link) (tape out : List ℕ) where
-  abbrev Gives : Written → List ℕ → Type 0
+  abbrev Gives : Result ℕ Refusal → List ℕ → Type 0
   Gives r after = (r ≡ write_answer most_groups longest_plain farthest start tape out) × (after ≡ write_out most_groups longest_plain farthest start tape out)
 
   abbrev last_row : List (ℕ × Bool)
   last_row = (room, ltb (length out) (length (marks_octets (marks_of most_groups longest_plain farthest start tape)))) ∷ []
 
-  pub write_ill : {t : Bool} {r : Written} → t ≡ (well_formed start && by_mode start.mode true false) → not t ≡ true
-      → r ≡ record { answer = not_record; length = 0 } → Gives r out
+  pub write_ill : {t : Bool} → t ≡ (well_formed start && by_mode start.mode true false) → t ≡ false → Gives (Err Record) out
   unfolding write_answer write_out write_code
-  write_ill e h er = let code = rows_ill start tape last_row e h in (er ∙ rw code, rw code)
+  write_ill e h = let code = rows_ill start tape last_row e h in (rw code, rw code)
 
-  module _ {w : Found} (marks : List ℕ) (begun : Begins start) (ew : w ≡ found most_groups longest_plain farthest start tape marks) where
-    pub write_faulty : {r : Written} → (w.answer ≡ done → ⊥) → r ≡ record { answer = w.answer; length = 0 } → Gives r out
-    unfolding write_answer write_out write_code
-    write_faulty {r} fault er =
-        let code = rows_begun start tape last_row begun w.answer (answered start tape marks begun ew) in
-        rw code (by w.answer fault er)
-      where
-        by : (a : ℕ) → (a ≡ done → ⊥) → r ≡ record { answer = a; length = 0 }
-            → (r ≡ record { answer = on_done a (first_of last_row) a; length = on_done (on_done a (first_of last_row) a) (length (marks_octets (marks_of most_groups longest_plain farthest start tape))) 0 })
-            × (out ≡ on_done (on_done a (first_of last_row) a) (written (marks_octets (marks_of most_groups longest_plain farthest start tape)) out) out)
-        by zero fault er = absurd (fault refl)
-        by (suc n) fault er = (er, refl)
+  module _ (begun : Begins start) where
+    pub write_faulty : {refusal : Refusal} → Err refusal ≡ found most_groups longest_plain farthest start tape out → Gives (Err refusal) out
+    unfolding write_answer write_out write_code found
+    write_faulty e =
+        let a : ℕ = (contents most_groups longest_packet tape).answer in
+        let code = rows_begun start tape last_row begun a refl in
+        let same = faulty a (first_of last_row) _ (length (marks_octets (marks_of most_groups longest_plain farthest start tape))) (sym e) in
+        rw code (sym same, sym (err_done (on_done a (first_of last_row) a) _ _ out same))
 
-    module _ (whole : Whole start) (ok : w.answer ≡ done) where
+    module _ {w : Found} (ew : Ok w ≡ found most_groups longest_plain farthest start tape out) where
       code_is : write_code most_groups longest_plain farthest start tape out ≡ first_of last_row
       unfolding write_code
-      code_is = rows_begun start tape last_row begun done (answered start tape marks begun ew ∙ ok)
+      code_is = rows_begun start tape last_row begun done (walked start tape out begun ew).0
 
       pub list_length : mark_length * w.marks ≡ length (marks_octets (marks_of most_groups longest_plain farthest start tape))
-      unfolding found
-      list_length = ap (λ (f : Found). mark_length * f.marks) ew ∙ sym (all_length start tape marks whole)
+      list_length = ap (λ n. mark_length * n) (walked start tape out begun ew).1 ∙ sym (all_length start tape out begun)
 
-      pub write_short : {r : Written} → length out < mark_length * w.marks → r ≡ record { answer = room; length = 0 } → Gives r out
+      pub write_short : length out < mark_length * w.marks → Gives (Err Room) out
       unfolding write_answer write_out
-      write_short short er =
+      write_short short =
           let small = lt-ltb (length out) (length (marks_octets (marks_of most_groups longest_plain farthest start tape))) (omega (arith, list_length)) in
-          (er ∙ rw (code_is, small), rw (code_is, small))
+          (rw (code_is, small), rw (code_is, small))
 
       pub write_done : {after : List ℕ} → mark_length * w.marks ≤ length out
           → after ≡ written (marks_octets (marks_of most_groups longest_plain farthest start tape)) out
-          → Gives (record { answer = done; length = mark_length * w.marks }) after
+          → Gives (Ok (mark_length * w.marks)) after
       unfolding write_answer write_out
       write_done enough ea =
           let large = le-ltb (length out) (length (marks_octets (marks_of most_groups longest_plain farthest start tape))) (omega (arith, list_length)) in

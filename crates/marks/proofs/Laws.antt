@@ -1,5 +1,5 @@
 -- What holds of marks and walks: `check_yes` says when a check says yes, and `write_yes` that it does so to what a write gives.
-use Rattle.std.specs.Prelude.{◌≡◌, Bool, true, false, not, ◌↔◌, eqb, ltb, length, take, drop, get_or}
+use Rattle.std.specs.Prelude.{◌≡◌, Bool, true, false, not, ◌↔◌, eqb, ltb, length, take, drop, get_or, Ok}
 use Rattle.std.proofs.Math.Path.{refl}
 use Rattle.std.proofs.Common.{sym, ◌∙◌, le-ltb, ltb-true, ltb-false, eq-eqb, ne_eqb}
 use Rattle.std.proofs.lemmas.Bool.{false≢true}
@@ -10,7 +10,7 @@ use native.Mathlib.Omega.{arith}
 use Rattle.std.proofs.Math.Dec.{eqb-suc-zero}
 use Rattle.std.proofs.Math.ListN.{replicate, length-append}
 use Rattle.std.proofs.Math.Seq.{take-append_seam}
-use Rattle.answer.specs.Answer.{done, room, not_record, waiting, pick, first_of, on_done}
+use Rattle.answer.specs.Answer.{done, room, not_record, waiting, pick, first_of, on_done, result_of, value_of}
 use Rattle.octets.specs.Octets.{big_endian, from_big_endian, written, equal}
 use Rattle.octets.specs.Laws.{big_endian_length, big_endian_back, equal_same, equal_true}
 use Rattle.mppe_keys.specs.declared.Mode.{Mode}
@@ -23,7 +23,8 @@ use Rattle.mppe_record.specs.Record.{front_octets}
 use Rattle.mppe_record.proofs.Laws.{bits_known, Sized, front_octets_length, stateless_in_back, open_sized}
 use Rattle.tape.specs.Tape.{contents}
 use Rattle.marks.specs.declared.Mark.{Mark}
-use Rattle.marks.specs.Marks.{every, mark_length, mark_octets, marks_octets, mark_in, mark_read, opened, onward, reached, kept, marks_from, marks_of, write_code, write_answer, write_out, checked}
+use Rattle.marks.specs.declared.Checked.{Checked}
+use Rattle.marks.specs.Marks.{every, mark_length, mark_octets, marks_octets, mark_in, mark_read, opened, onward, reached, kept, marks_from, marks_of, walk_rows, write_code, write_answer, write_out, unchecked, checked}
 
 -- a mark whose numbers fit their octets, with a well-formed stateless record
 abbrev pub Whole : Link → Type 0
@@ -38,7 +39,7 @@ unfolding mark_octets
 mark_length_lem m h = simp length-append (omega (arith, big_endian_length 8 m.opened, big_endian_length 8 m.offset, front_octets_length m.link h))
 
 -- .. and that the mark is read back from them
-pub mark_back : (m : Mark) → Markable m → mark_read (mark_octets m) ≡ record { answer = done; mark = m }
+pub mark_back : (m : Mark) → Markable m → mark_read (mark_octets m) ≡ Ok m
 unfolding mark_read mark_in mark_octets
 mark_back m (ho, hf, (well, mode, sized)) =
     let back = stateless_in_back m.link sized mode well in
@@ -70,10 +71,21 @@ whole_one m sized false = refl
 pub whole_append : (a b : List Mark) → WholeOctets a → WholeOctets b → WholeOctets (a ++ b)
 whole_append a b ha hb = rw (octets_append a b) (simp length-append (omega (arith, ha, hb)))
 
+-- what a check says: a refused one no
+yes_of : (n : ℕ) (x : Checked) → (value_of unchecked (result_of n x)).yes ≡ on_done n x.yes false
+yes_of zero x = refl
+yes_of (suc n) x = refl
+
 module _ (k limit far : ℕ) where
+  told : (start : Link) (tape marks : List ℕ)
+      → (value_of unchecked (checked k limit far start tape marks)).yes
+      ≡ on_done (first_of (walk_rows k limit far start tape)) (equal (marks_octets (marks_of k limit far start tape)) marks) false
+  unfolding checked
+  told start tape marks = yes_of (first_of (walk_rows k limit far start tape)) _
+
   -- a check says yes "exactly when they are the marks that a walk from the start gives"
   pub check_yes : (start : Link) (tape marks : List ℕ)
-      → ((checked k limit far start tape marks).yes ≡ true)
+      → ((value_of unchecked (checked k limit far start tape marks)).yes ≡ true)
       ↔ ((well_formed start ≡ true) × (start.mode ≡ Stateless) × ((contents k (front + limit) tape).answer ≡ done)
       × (marks ≡ marks_octets (marks_of k limit far start tape)))
   unfolding checked
@@ -94,19 +106,19 @@ module _ (k limit far : ℕ) where
           → on_done (first_of ((not_record, not w) ∷ (not_record, by_mode m false true) ∷ (a, not (eqb a done)) ∷ [])) t false ≡ t
       passed w m a t ew em ea = rw (ew, em, ea)
 
-      yes : (checked k limit far start tape marks).yes ≡ true
+      yes : (value_of unchecked (checked k limit far start tape marks)).yes ≡ true
           → (well_formed start ≡ true) × (start.mode ≡ Stateless) × ((contents k (front + limit) tape).answer ≡ done) × (marks ≡ list)
       yes e =
-          let (w, m, a, t) = by (well_formed start) start.mode (contents k (front + limit) tape).answer (equal list marks) e in
+          let (w, m, a, t) = by (well_formed start) start.mode (contents k (front + limit) tape).answer (equal list marks) (sym (told start tape marks) ∙ e) in
           (w, m, a, sym (equal_true list marks t))
 
       back : (well_formed start ≡ true) × (start.mode ≡ Stateless) × ((contents k (front + limit) tape).answer ≡ done) × (marks ≡ list)
-          → (checked k limit far start tape marks).yes ≡ true
-      back (w, m, a, e) = passed (well_formed start) start.mode (contents k (front + limit) tape).answer (equal list marks) w m a ∙ rw e (equal_same list)
+          → (value_of unchecked (checked k limit far start tape marks)).yes ≡ true
+      back (w, m, a, e) = told start tape marks ∙ passed (well_formed start) start.mode (contents k (front + limit) tape).answer (equal list marks) w m a ∙ rw e (equal_same list)
 
   -- what a write gives is such a list
   pub write_yes : (start : Link) (tape out : List ℕ) → write_code k limit far start tape out ≡ done
-      → (checked k limit far start tape (take (write_answer k limit far start tape out).length (write_out k limit far start tape out))).yes ≡ true
+      → (value_of unchecked (checked k limit far start tape (take (value_of 0 (write_answer k limit far start tape out)) (write_out k limit far start tape out)))).yes ≡ true
   unfolding write_code write_answer write_out
   write_yes start tape out e =
       let (w, m, a) = by (well_formed start) start.mode (contents k (front + limit) tape).answer (ltb (length out) (length list)) e in

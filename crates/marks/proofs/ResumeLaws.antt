@@ -1,7 +1,7 @@
 -- Opening on, proved: `opens_on` at the end is the claim.
 use Rattle.std.proofs.Math.Path.{◌≡◌, refl, ap}
 use Rattle.std.proofs.Common.{sym, ◌∙◌, length-drop, drop_of_length-le, take_at, drop_at, ltb-true, ltb-false}
-use Rattle.std.specs.Prelude.{Bool, eqb, ltb, take, drop, get_or, replicate}
+use Rattle.std.specs.Prelude.{Bool, eqb, ltb, take, drop, get_or, replicate, Ok}
 use Rattle.std.proofs.Math.Bool.{true, false}
 use mathlib.Core.List.{List, [], ◌∷◌, ◌++◌, append_assoc, append-nil}
 use Prim.Native.Nat.{ℕ, zero, suc, ◌+◌, ◌*◌, ◌-◌, ◌/◌, ◌%◌, ◌^◌, ◌<◌, ◌≤◌}
@@ -22,7 +22,6 @@ use Rattle.tape.proofs.Laws.{reads_records, records_only, reads_back, records_co
 use Rattle.tape.specs.Replay.{Step, Held, held, held_by, fed, replay, held_after, at_end}
 use Rattle.tape.proofs.ReplayLaws.{replay_from}
 use Rattle.marks.specs.declared.Mark.{Mark}
-use Rattle.marks.specs.declared.MarkRead.{MarkRead}
 use Rattle.marks.specs.Marks.{every, mark_length, mark_octets, marks_octets, mark_read, start_at, Opened, opened, onward, walk, reached, marks_from, marks_of}
 use Rattle.marks.specs.Resume.{Shows, ShowsTo, mark_at, Resumes, OpensOn}
 use Rattle.marks.proofs.Laws.{Whole, Markable, mark_length_lem, mark_back, check_yes, onward_whole, onward_opened, kept_is, marks_length, marks_number}
@@ -350,8 +349,7 @@ module _ (k limit far : ℕ) (fits : front + limit < 128 ^ k) where
     where
       by : (ps : List (List ℕ)) → (contents k (front + limit) tape).packets ≡ ps → Whole start → Writable (front + limit) ps → tape ≡ tape_of k ps
           → marks ≡ marks_octets (marks_from k limit far (start_at start) ps)
-          → (let r : MarkRead = mark_read (mark_at i marks) in
-          (r.answer ≡ done) × (r.mark.opened ≡ every * suc i) × Resumes k limit far start tape r.mark)
+          → (m : Mark) × (mark_read (mark_at i marks) ≡ Ok m) × (m.opened ≡ every * suc i) × Resumes k limit far start tape m
       by ps packets whole all tape-is is =
           let long = ap (λ l. length l) is ∙ marks_length k limit far (start_at start) ps whole in
           let f = found k limit far (start_at start) ps i whole (omega (arith, inside, long)) in
@@ -366,9 +364,9 @@ module _ (k limit far : ℕ) (fits : front + limit < 128 ^ k) where
             omega (arith, place_inside f.before f.behind f.packets),
             reached_whole k limit far (start_at start) f.before whole,
           ) in
-          let read : mark_read (mark_at i marks) ≡ record { answer = done; mark = m } =
+          let read : mark_read (mark_at i marks) ≡ Ok m =
           ap (λ l. mark_read (mark_at i l)) is ∙ ap (λ l. mark_read l) f.octets ∙ mark_back m markable in
-          rw read (refl, f.number ∙ omega arith, resumed)
+          (m, read, f.number ∙ omega arith, resumed)
         where
           place_inside : (a b : List (List ℕ)) → ps ≡ a ++ b → (reached k limit far (start_at start) a).offset ≤ length tape
           place_inside a b e =

@@ -1,19 +1,18 @@
 -- Marks beside a tape, in the order and words of 02, M-111. `k` is the largest number of groups of a length on tape, `limit` the longest plain
 -- packet, `far` the farthest distance that is opened.
-use Rattle.std.specs.Prelude.{Bool, true, false, not, List, [], ◌∷◌, ◌++◌, ℕ, suc, ◌+◌, ◌-◌, ◌%◌, eqb, ltb, length, take, drop, get_or, replicate}
-use Rattle.answer.specs.Answer.{done, room, size, not_record, pick, wrong, first_of, on_done}
+use Rattle.std.specs.Prelude.{Bool, true, false, not, List, [], ◌∷◌, ◌++◌, ℕ, suc, ◌+◌, ◌-◌, ◌%◌, eqb, ltb, length, take, drop, get_or, replicate, Result}
+use Rattle.answer.specs.declared.Refusal.{Refusal}
+use Rattle.answer.specs.Answer.{done, room, size, not_record, pick, wrong, first_of, on_done, result_of}
 use Rattle.octets.specs.Octets.{big_endian, from_big_endian, written, equal}
 use Rattle.mppe_keys.specs.declared.Strength.TheVariants.{Bits40}
 use Rattle.mppe_keys.specs.declared.Mode.TheVariants.{Stateless}
 use Rattle.mppe_keys.specs.Keys.{by_mode}
 use Rattle.mppe.specs.declared.Link.{Link}
 use Rattle.mppe.specs.declared.Outcome.{Outcome}
-use Rattle.mppe.specs.Link.{front, well_formed, no_link, Result, open_result}
+use Rattle.mppe.specs.Link.{front, well_formed, no_link, open_result}
 use Rattle.mppe_record.specs.Record.{no_strength, front_octets, stateless_in}
-use Rattle.tape.specs.declared.Written.{Written}
 use Rattle.tape.specs.Tape.{record_size, contents}
 use Rattle.marks.specs.declared.Mark.{Mark}
-use Rattle.marks.specs.declared.MarkRead.{MarkRead}
 use Rattle.marks.specs.declared.Checked.{Checked}
 
 -- "after each 256th opened packet"
@@ -49,15 +48,13 @@ mark_rows octets =
     ∷ (not_record, not (well_formed (mark_in octets).link))
     ∷ []
 
--- "each with 40 bits, stateless, all else 0"
+-- of octets that are refused: "each with 40 bits, stateless, all else 0"
 abbrev pub no_mark : Mark
 no_mark = mark_of 0 0 (no_link Bits40 Stateless)
 
 -- "A call reads a mark"
-unfoldable pub mark_read : List ℕ → MarkRead
-mark_read octets =
-    let code : ℕ = first_of (mark_rows octets) in
-    record { answer = code; mark = on_done code (mark_in octets) no_mark }
+unfoldable pub mark_read : List ℕ → Result Mark Refusal
+mark_read octets = result_of (first_of (mark_rows octets)) (mark_in octets)
 
 -- what opening a packet "with room lent" gives: the outcome, the plain packet, empty where it is refused, and the offset behind its record
 pub record Opened : Type 0 where
@@ -74,11 +71,15 @@ unfoldable pub agreeing : List Mark → (octets : List ℕ) → ℕ
 agreeing [] octets = 0
 agreeing (m ∷ ms) octets = pick (equal (mark_octets m) (take mark_length octets)) (suc (agreeing ms (drop mark_length octets))) 0
 
+-- of a check that is refused: a no, and none
+abbrev pub unchecked : Checked
+unchecked = record { yes = false; agreeing = 0 }
+
 module _ (k limit far : ℕ) where
   -- room for just the plain packet: any larger room gives the same
   unfoldable pub opened : Mark → (packet : List ℕ) → Opened
   opened m packet =
-      let r : Result = open_result limit far m.link packet (replicate (length packet - front) 0) in
+      let r = open_result limit far m.link packet (replicate (length packet - front) 0) in
       record {
         outcome = r.outcome;
         plain = on_done r.outcome.answer r.buffer [];
@@ -124,22 +125,15 @@ module _ (k limit far : ℕ) where
   unfoldable pub write_code : (start : Link) (tape out : List ℕ) → ℕ
   write_code start tape out = first_of (walk_rows start tape ++ ((room, ltb (length out) (length (marks_octets (marks_of start tape)))) ∷ []))
 
-  -- "One call writes the list": what it answers, with the octets written, and the lent buffer after it
-  unfoldable pub write_answer : (start : Link) (tape out : List ℕ) → Written
-  write_answer start tape out =
-      let code : ℕ = write_code start tape out in
-      record { answer = code; length = on_done code (length (marks_octets (marks_of start tape))) 0 }
+  -- "One call writes the list": how many octets it wrote, or its refusal, and the lent buffer after it
+  unfoldable pub write_answer : (start : Link) (tape out : List ℕ) → Result ℕ Refusal
+  write_answer start tape out = result_of (write_code start tape out) (length (marks_octets (marks_of start tape)))
 
   unfoldable pub write_out : (start : Link) (tape out : List ℕ) → List ℕ
   write_out start tape out = on_done (write_code start tape out) (written (marks_octets (marks_of start tape)) out) out
 
   -- "A check takes start record, tape and marks and says yes exactly when they are the marks that a walk from the start gives"; and how many
   -- of them are, from the first on
-  unfoldable pub checked : (start : Link) (tape marks : List ℕ) → Checked
+  unfoldable pub checked : (start : Link) (tape marks : List ℕ) → Result Checked Refusal
   checked start tape marks =
-      let code : ℕ = first_of (walk_rows start tape) in
-      record {
-        answer = code;
-        yes = on_done code (equal (marks_octets (marks_of start tape)) marks) false;
-        agreeing = on_done code (agreeing (marks_of start tape) marks) 0;
-      }
+      result_of (first_of (walk_rows start tape)) (record { yes = equal (marks_octets (marks_of start tape)) marks; agreeing = agreeing (marks_of start tape) marks })

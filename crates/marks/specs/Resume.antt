@@ -1,7 +1,7 @@
 -- The claim of 02, M-111: "Opening on from a checked mark with room lent gives the same packets, refusals and end record as the whole walk
 -- after that point." First in terms of lists of packets, then of the calls.
-use Rattle.std.specs.Prelude.{◌≡◌, true, List, [], ◌∷◌, ◌++◌, ℕ, suc, ◌+◌, ◌*◌, ◌^◌, ◌<◌, ◌≤◌, length, take, drop, replicate}
-use Rattle.answer.specs.Answer.{done}
+use Rattle.std.specs.Prelude.{◌≡◌, true, List, [], ◌∷◌, ◌++◌, ℕ, suc, ◌+◌, ◌*◌, ◌^◌, ◌<◌, ◌≤◌, length, take, drop, replicate, Ok}
+use Rattle.answer.specs.Answer.{value_of}
 use Rattle.octets.specs.Octets.{Octets}
 use Rattle.mppe.specs.declared.Link.{Link}
 use Rattle.mppe.specs.Link.{front}
@@ -9,8 +9,7 @@ use Rattle.mppe_record.proofs.Laws.{Sized}
 use Rattle.tape.specs.Tape.{tape_of, read_from, contents, holding}
 use Rattle.tape.specs.Replay.{Step, held, at_end, replay}
 use Rattle.marks.specs.declared.Mark.{Mark}
-use Rattle.marks.specs.declared.MarkRead.{MarkRead}
-use Rattle.marks.specs.Marks.{every, mark_length, start_at, mark_read, Opened, walk, reached, checked}
+use Rattle.marks.specs.Marks.{every, mark_length, start_at, mark_read, Opened, walk, reached, unchecked, checked}
 
 -- steps of a replay that show what opening packets in turn gives: the outcome, the plain packet in front of the room, and the offset
 unfoldable pub Shows : List Opened → List Step → Type 0
@@ -56,7 +55,6 @@ module _ (k limit far : ℕ) where
   -- the walk may be taken up there
   unfoldable pub OpensOn : Type 0
   OpensOn =
-      (start : Link) (tape marks : List ℕ) → Sized start → Octets tape → length tape < 2 ^ 64 → (checked k limit far start tape marks).yes ≡ true
+      (start : Link) (tape marks : List ℕ) → Sized start → Octets tape → length tape < 2 ^ 64 → (value_of unchecked (checked k limit far start tape marks)).yes ≡ true
       → (i : ℕ) → mark_length * i < length marks
-      → (let r : MarkRead = mark_read (mark_at i marks) in
-      (r.answer ≡ done) × (r.mark.opened ≡ every * suc i) × Resumes start tape r.mark)
+      → (m : Mark) × (mark_read (mark_at i marks) ≡ Ok m) × (m.opened ≡ every * suc i) × Resumes start tape m

@@ -1,20 +1,18 @@
 // Marks beside a tape: where a walk over the tape of a stateless link may be taken up again (02, M-111).
 #![tactic(auto)]
 
-ghost use Rattle.std.specs.Prelude.{◌≡◌, true, false, not, ◌&&◌, suc, ◌+◌, ◌*◌, ◌-◌, ◌/◌, ◌^◌, ◌≤◌, ◌<◌, ltb, length, take, drop, replicate};
+ghost use Rattle.std.specs.Prelude.{◌≡◌, true, false, not, ◌&&◌, suc, ◌+◌, ◌*◌, ◌-◌, ◌/◌, ◌^◌, ◌≤◌, ◌<◌, ltb, length, take, drop, replicate, IfOk};
 ghost use Rattle.answer.specs.Answer.{outside, on_done};
 ghost use Rattle.octets.specs.Octets.{from_big_endian, written, written_at, equal};
 ghost use Rattle.mppe_keys.specs.declared.Mode.TheVariants.{Stateless};
 ghost use Rattle.mppe_keys.specs.Keys.{by_mode};
 ghost use Rattle.mppe.specs.Link.{front, longest_plain, farthest, well_formed, open_result};
 ghost use Rattle.tape.specs.Tape.{shortest_packet, longest_packet, most_groups, on_packet, read_at};
-ghost use Rattle.marks.specs.Marks.{every, mark_length, mark_octets, marks_octets, no_mark, mark_read, onward, marks_of, write_answer, write_out, checked};
-ghost use Rattle.marks.specs.Inner.{Begins, found, agreed_on};
+ghost use Rattle.marks.specs.Marks.{every, mark_length, mark_octets, marks_octets, mark_read, onward, marks_of, write_answer, write_out, checked};
+ghost use Rattle.marks.specs.Inner.{Begins, ahead, found, agreed_on};
 
+use answer::Refusal;
 use mppe::{FRONT, Link, Outcome, SHORTEST_PLAIN};
-use mppe_keys::{Mode, Strength};
-use octets::{Order, word};
-use tape::Written;
 
 // The octets of a mark: how many packets were opened, the offset, and the first octets of the link record.
 pub const MARK_LENGTH: usize = 51;
@@ -35,147 +33,83 @@ pub struct Mark {
     pub link: Link,
 }
 
-// The number answered, and the mark read; 40 bits, stateless and all else 0 where it is refused.
-#[derive(Clone, Copy)]
-pub struct MarkRead {
-    pub answer: u8,
-    pub mark: Mark,
-}
-
-// The number answered, whether the marks are those of the tape, and how many of them are from the first on; a no and 0 where it is refused.
-#[derive(Clone, Copy)]
+// Whether marks are those of a tape, and how many of them are from the first on.
+#[derive(Clone, Copy, Debug, PartialEq, Eq)]
 pub struct Checked {
-    pub answer: u8,
     pub yes: bool,
     pub agreeing: usize,
 }
 
-// What a walk over a tape finds beside a list: what the last read answers, how many marks there are, and how many of them the list has.
+// What a walk over a tape finds beside a list: how many marks there are, and how many of them the list has.
 #[derive(Clone, Copy)]
 struct Found {
-    answer: u8,
     marks: usize,
     agreeing: usize,
 }
 
 // Writes the list of a tape's marks into the front of a lent buffer.
-pub fn write(start: Link, tape: &[u8], out: &mut [u8]) -> Written
+pub fn write(start: Link, tape: &[u8], out: &mut [u8]) -> Result<usize, Refusal>
     ensures { (result ≡ write_answer most_groups longest_plain farthest start tape.now out.old)
         × (out.new ≡ write_out most_groups longest_plain farthest start tape.now out.old) }
 {
     if !begins(start) {
-        return refused(answer::RECORD);
+        return Err(Refusal::Record);
     }
-    let walked = compared(start, tape, out);
-    if walked.answer != answer::DONE {
-        return refused(walked.answer);
-    }
+    let walked = compared(start, tape, out)?;
     let length = MARK_LENGTH * walked.marks;
     if out.len() < length {
-        return refused(answer::ROOM);
+        return Err(Refusal::Room);
     }
     put_marks(start, tape, out);
-    Written {
-        answer: answer::DONE,
-        length,
-    }
+    Ok(length)
 }
 
 // Reads a mark; refused as `size` where there are not 51 octets, then as `record` for a wrong strength or a record that is not well formed.
 #[tactic(auto, using(crate::proofs::InnerLaws::told_rules))]
-pub fn read(octets: &[u8]) -> MarkRead
+pub fn read(octets: &[u8]) -> Result<Mark, Refusal>
     ensures { result ≡ mark_read octets.now }
 {
     if octets.len() != MARK_LENGTH {
-        return no_mark(answer::SIZE);
+        return Err(Refusal::Size);
     }
-    let held = mppe_record::read_stateless(&octets[LINK_AT..]);
-    let link = held.link;
-    if held.answer != answer::DONE {
-        return no_mark(answer::RECORD);
-    }
+    let link = mppe_record::read_stateless(&octets[LINK_AT..])?;
     if !mppe::well_formed(link) {
-        return no_mark(answer::RECORD);
+        return Err(Refusal::Record);
     }
-    MarkRead {
-        answer: answer::DONE,
-        mark: Mark {
-            opened: long(&octets[..OFFSET_AT]),
-            offset: long(&octets[OFFSET_AT..LINK_AT]) as usize,
-            link,
-        },
-    }
+    Ok(Mark {
+        opened: long(&octets[..OFFSET_AT]),
+        offset: long(&octets[OFFSET_AT..LINK_AT]) as usize,
+        link,
+    })
 }
 
 // Checks a list against the marks that a walk over the tape from the start gives.
-pub fn check(start: Link, tape: &[u8], marks: &[u8]) -> Checked
+pub fn check(start: Link, tape: &[u8], marks: &[u8]) -> Result<Checked, Refusal>
     ensures { result ≡ checked most_groups longest_plain farthest start tape.now marks.now }
 {
     if !begins(start) {
-        return refused_check(answer::RECORD);
+        return Err(Refusal::Record);
     }
-    let walked = compared(start, tape, marks);
-    if walked.answer != answer::DONE {
-        return refused_check(walked.answer);
-    }
-    Checked {
-        answer: answer::DONE,
+    let walked = compared(start, tape, marks)?;
+    Ok(Checked {
         yes: walked.agreeing == walked.marks && marks.len() == MARK_LENGTH * walked.marks,
         agreeing: walked.agreeing,
-    }
-}
-
-// A refusal has written nothing.
-fn refused(code: u8) -> Written
-    ensures { result ≡ record { answer = code; length = 0 } }
-{
-    Written {
-        answer: code,
-        length: 0,
-    }
-}
-
-// What is read of octets that hold no mark.
-fn no_mark(code: u8) -> MarkRead
-    ensures { result ≡ record { answer = code; mark = no_mark } }
-{
-    MarkRead {
-        answer: code,
-        mark: Mark {
-            opened: 0,
-            offset: 0,
-            link: mppe::no_link(Strength::Bits40, Mode::Stateless),
-        },
-    }
-}
-
-// A refused check is a no.
-fn refused_check(code: u8) -> Checked
-    ensures { result ≡ record { answer = code; yes = false; agreeing = 0 } }
-{
-    Checked {
-        answer: code,
-        yes: false,
-        agreeing: 0,
-    }
+    })
 }
 
 // Whether a walk may begin with a record: it is well formed and stateless.
 fn begins(start: Link) -> bool
-    ensures { result ≡ (well_formed start && by_mode start.mode true false) }
+    ensures is { result ≡ (well_formed start && by_mode start.mode true false) }
+    ensures told { result ≡ true → Begins start }
 {
-    if !mppe::well_formed(start) {
-        return false;
-    }
-    let mode = start.mode;
-    !mppe_keys::is_stateful(mode)
+    mppe::well_formed(start) && !mppe_keys::is_stateful(start.mode)
 }
 
 // Walks over a tape from the start, and holds each mark that it gives against a list.
-fn compared(start: Link, tape: &[u8], marks: &[u8]) -> Found
+fn compared(start: Link, tape: &[u8], marks: &[u8]) -> Result<Found, Refusal>
     requires { Begins start }
-    ensures { (result ≡ found most_groups longest_plain farthest start tape.now marks.now)
-        × (mark_length * result.marks ≤ length tape.now) }
+    ensures is { result ≡ found most_groups longest_plain farthest start tape.now marks.now }
+    ensures fits { IfOk result (λ all. mark_length * all.marks ≤ length tape.now) }
 {
     let mut at = Mark {
         opened: 0,
@@ -183,19 +117,18 @@ fn compared(start: Link, tape: &[u8], marks: &[u8]) -> Found
         link: start,
     };
     let mut agreeing = 0;
-    while has_packet(tape, at.offset) {
-        let next = advanced(at, tape);
+    while let Some(next) = advanced(at, tape) {
         if is_kept(at.opened, next.opened) {
             agreeing = agreed(next, marks, agreeing);
         }
         at = next;
     }
     let last = tape::read(tape, at.offset);
-    Found {
-        answer: last.answer,
+    last.answer?;
+    Ok(Found {
         marks: (at.opened / EVERY) as usize,
         agreeing,
-    }
+    })
 }
 
 // Walks over a tape from the start, and writes each mark that it gives.
@@ -208,8 +141,7 @@ fn put_marks(start: Link, tape: &[u8], out: &mut [u8])
         offset: TAPE_START,
         link: start,
     };
-    while has_packet(tape, at.offset) {
-        let next = advanced(at, tape);
+    while let Some(next) = advanced(at, tape) {
         if is_kept(at.opened, next.opened) {
             put_mark(next, out);
         }
@@ -217,29 +149,23 @@ fn put_marks(start: Link, tape: &[u8], out: &mut [u8])
     }
 }
 
-// Whether there is a packet at an offset.
-fn has_packet(tape: &[u8], offset: usize) -> bool
-    ensures { result ≡ on_packet (read_at most_groups longest_packet tape.now offset).packet true false }
-{
-    let packet = tape::packet(tape, offset);
-    packet.len() != 0
-}
-
-// What a walk holds behind the packet at its offset.
-fn advanced(at: Mark, tape: &[u8]) -> Mark
-    requires { (on_packet (read_at most_groups longest_packet tape.now at.offset).packet true false ≡ true) × Begins at.link × (at.opened < at.offset) }
-    ensures { result ≡ onward most_groups longest_plain farthest at (read_at most_groups longest_packet tape.now at.offset).packet }
+// What a walk holds behind the packet at its offset; none where there is no packet.
+fn advanced(at: Mark, tape: &[u8]) -> Option<Mark>
+    requires { Begins at.link × (at.opened < at.offset) }
+    ensures { result ≡ ahead most_groups longest_plain farthest at tape.now }
 {
     let next = tape::read(tape, at.offset);
     let packet = tape::packet(tape, at.offset);
-    let link = at.link;
-    let outcome = outcome_of(link, packet);
+    if packet.is_empty() {
+        return None;
+    }
+    let outcome = outcome_of(at.link, packet);
     let left = outcome.link;
-    Mark {
+    Some(Mark {
         opened: counted(outcome.answer, at.opened),
         offset: next.offset,
         link: left,
-    }
+    })
 }
 
 // What opening a packet with a stateless record and enough room gives beside the octets: its front and its protocol octets decide it.
@@ -257,9 +183,10 @@ fn counted(code: u8, opened: u64) -> u64
     ensures { result ≡ on_done code (suc opened) opened }
 {
     if code == answer::DONE {
-        return opened + 1;
+        opened + 1
+    } else {
+        opened
     }
-    opened
 }
 
 // Whether a mark is kept behind a packet, by how many were opened before it and behind it.
@@ -270,19 +197,18 @@ fn is_kept(before: u64, behind: u64) -> bool
 }
 
 // How many marks of a list agree from the first on, with one more.
+#[tactic(auto, unfolding(crate::specs::Inner::agreed_on))]
 fn agreed(mark: Mark, marks: &[u8], agreeing: usize) -> usize
     requires { agreeing < mark.opened / every }
     ensures { result ≡ agreed_on mark marks.now agreeing }
 {
     let number = (mark.opened / EVERY) as usize;
-    if agreeing + 1 != number {
-        return agreeing;
-    }
     let octets = mark_octets(mark);
-    if !stands_at(&octets, MARK_LENGTH * agreeing, marks) {
-        return agreeing;
+    if agreeing + 1 == number && stands_at(&octets, MARK_LENGTH * agreeing, marks) {
+        number
+    } else {
+        agreeing
     }
-    number
 }
 
 // Whether a mark's octets stand at a place of a list.
@@ -291,10 +217,7 @@ fn stands_at(octets: &[u8], at: usize, marks: &[u8]) -> bool
     ensures { result ≡ equal octets.now (take mark_length (drop at marks.now)) }
 {
     let end = at + MARK_LENGTH;
-    if marks.len() < end {
-        return false;
-    }
-    octets::same(octets, &marks[at..end])
+    end <= marks.len() && octets::same(octets, &marks[at..end])
 }
 
 // Writes a mark into its place in a list.
@@ -312,8 +235,8 @@ fn mark_octets(mark: Mark) -> [u8; 51]
     ensures { (result ≡ mark_octets mark) × (length result ≡ mark_length) }
 {
     let link = mark.link;
-    let opened = octets::long_octets(Order::HighestFirst, mark.opened);
-    let offset = octets::long_octets(Order::HighestFirst, mark.offset as u64);
+    let opened = mark.opened.to_be_bytes();
+    let offset = (mark.offset as u64).to_be_bytes();
     let front = mppe_record::front_octets(link);
     let mut octets = [0u8; 51];
     octets::copy(&opened, &mut octets);
@@ -327,7 +250,7 @@ fn long(octets: &[u8]) -> u64
     requires { length octets.now ≡ 8 }
     ensures { result ≡ from_big_endian octets.now }
 {
-    let high = word(octets[0], octets[1], octets[2], octets[3]);
-    let low = word(octets[4], octets[5], octets[6], octets[7]);
-    high as u64 * 4294967296 + low as u64
+    let mut number = [0u8; 8];
+    number.copy_from_slice(octets);
+    u64::from_be_bytes(number)
 }

@@ -1,13 +1,13 @@
 -- MD4, as RFC 1320 defines it.
-use Rattle.std.specs.Prelude.{List, [], ◌∷◌, ℕ, ◌*◌, ◌%◌, ltb, length, get_or, replicate}
+use Rattle.std.specs.Prelude.{List, [], ◌∷◌, ℕ, ◌*◌, ◌%◌, ltb, length, get_or, Result}
 use Rattle.std.specs.Int.Bits.{bit_and, bit_or, bit_xor}
-use Rattle.answer.specs.Answer.{size, pick, first_of, on_done}
+use Rattle.answer.specs.declared.Refusal.{Refusal}
+use Rattle.answer.specs.Answer.{size, pick, first_of, result_of}
 use Rattle.octets.specs.declared.Order.TheVariants.{LowestFirst}
 use Rattle.octets.specs.Octets.{word_le, words_of, longest_text}
 use Rattle.octets.specs.Words.{◌⊞◌, rotl, complement}
 use Rattle.blocks.specs.Blocks.{rounds, hashed}
 use Rattle.md4.specs.declared.State.{State}
-use Rattle.md4.specs.declared.Digest.{Digest}
 
 -- 3.3: the words A, B, C, D at first
 abbrev pub initial : State
@@ -69,6 +69,6 @@ md4 m = octets_in (hashed compress LowestFirst initial m)
 abbrev pub md4_code : List ℕ → ℕ
 md4_code m = first_of ((size, ltb longest_text (length m)) ∷ [])
 
--- the answer to a text of any length; a refused one has zeros
-unfoldable pub md4_answer : List ℕ → Digest
-md4_answer m = record { answer = md4_code m; octets = on_done (md4_code m) (md4 m) (replicate 16 0) }
+-- the answer to a text of any length
+unfoldable pub md4_answer : List ℕ → Result (List ℕ) Refusal
+md4_answer m = result_of (md4_code m) (md4 m)

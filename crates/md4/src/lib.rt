@@ -1,21 +1,20 @@
 // MD4 (RFC 1320) of a lent text.
-#![tactic(auto)]
+#![tactic(auto, unfolding(crate::specs::Md4::md4_answer, crate::specs::Md4::md4, crate::specs::Md4::mixed, crate::specs::Md4::constant, crate::specs::Md4::shift, crate::specs::Md4::places, blocks::specs::Inner::closed_answer))]
 
-ghost use Rattle.std.specs.Prelude.{◌≡◌, ◌+◌, ◌*◌, ◌<◌, ◌≤◌, ltb, length, get_or};
-ghost use Rattle.answer.specs.Answer.{pick};
-ghost use Rattle.blocks.specs.Blocks.{rounds, absorbed as after_blocks, hashed as hashed_by};
+ghost use Rattle.std.specs.Prelude.{◌≡◌, ◌*◌, ◌<◌, List, ℕ, get_or};
+ghost use Rattle.blocks.specs.Blocks.{rounds, words};
 ghost use Rattle.octets.specs.declared.Order.TheVariants.{LowestFirst};
-ghost use Rattle.octets.specs.Octets.{word_le, longest_text};
 ghost use Rattle.md4.specs.Md4.{initial, mixed as mixed_by, constant as constant_of, places, shift as shift_of, operation as operation_of, added as sums, compress as compressed, octets_in, md4_answer};
 
-use octets::{LONGEST_TEXT, Order, add, rotl};
+use answer::Refusal;
+use blocks::BlockState;
+use octets::Order;
 
-// The number answered, and the digest; zeros where it is refused.
-#[derive(Clone, Copy)]
-pub struct Digest {
-    pub answer: u8,
-    pub octets: [u8; 16],
-}
+// Which word of the block each operation takes: digits in base 16, from the right, a number a round. As an array MD4 takes 7 hundredths longer.
+const PLACES: [u64; 3] = [0xfedcba9876543210, 0xfb73ea62d951c840, 0xf7b3d591e6a2c480];
+
+// By how many places the operations of each round rotate, four in turn.
+const SHIFTS: [[u32; 4]; 3] = [[3, 7, 11, 19], [3, 5, 9, 13], [3, 9, 11, 15]];
 
 // The words A, B, C and D.
 #[derive(Clone, Copy)]
@@ -26,88 +25,66 @@ struct State {
     d: u32,
 }
 
-// The digest of a text of 0 to 65,535 octets; a longer one is refused with 3.
-pub fn md4(text: &[u8]) -> Digest
+// The digest of a text of 0 to 65,535 octets; a longer one is refused.
+pub fn md4(text: &[u8]) -> Result<[u8; 16], Refusal>
     ensures { result ≡ md4_answer text.now }
 {
-    if LONGEST_TEXT < text.len() {
-        return Digest {
-            answer: answer::SIZE,
-            octets: [0u8; 16],
-        };
+    Ok(octets_in(blocks::closed(initial(), 0, text)?))
+}
+
+impl BlockState for State {
+    ghost compressed = { compressed };
+
+    ghost order = { LowestFirst };
+
+    fn order() -> Order {
+        Order::LowestFirst
     }
-    Digest {
-        answer: answer::DONE,
-        octets: octets_in(hashed(text)),
+
+    fn compress(self, block: &[u8; 64]) -> State {
+        let x = blocks::words_in(Order::LowestFirst, block);
+        let s1 = round(self, &x, 0);
+        let s2 = round(s1, &x, 1);
+        let s3 = round(s2, &x, 2);
+        added(self, s3)
     }
 }
 
-// The words after a padded text.
-fn hashed(text: &[u8]) -> State
-    requires { length text.now ≤ longest_text }
-    ensures { result ≡ hashed_by compressed LowestFirst initial text.now }
+// The words A, B, C and D at first.
+fn initial() -> State
+    ensures { result ≡ initial }
 {
-    let start = State {
+    State {
         a: 0x67452301,
         b: 0xefcdab89,
         c: 0x98badcfe,
         d: 0x10325476,
-    };
-    let s = absorbed(start, text);
-    let mut last = [0u8; 128];
-    let n = blocks::padded_tail(Order::LowestFirst, text, 8 * (text.len() as u64), &mut last);
-    absorbed(s, &last[..n])
-}
-
-// The words after all whole blocks of m.
-fn absorbed(s: State, m: &[u8]) -> State
-    ensures { result ≡ after_blocks compressed s m.now }
-{
-    let mut h = s;
-    let mut i = 0;
-    while i < m.len() / 64 {
-        let from = 64 * i;
-        let to = from + 64;
-        h = compress(h, &m[from..to]);
-        i += 1;
     }
-    h
 }
 
-// The words after one block.
-fn compress(s: State, block: &[u8]) -> State
-    requires { length block.now ≡ 64 }
-    ensures { result ≡ compressed s block.now }
+// Round q, sixteen operations. Its loop is no plainer shared with the other digests: their steps would be closures that ask for t below a bound.
+fn round(s: State, x: &[u32; 16], q: usize) -> State
+    requires { q < 3 }
+    ensures { (block : List ℕ) → x.now ≡ words LowestFirst block 16 → result ≡ rounds (operation_of block) (16 * q) 16 s }
 {
-    let s1 = round(s, block, 0);
-    let s2 = round(s1, block, 1);
-    let s3 = round(s2, block, 2);
-    added(s, s3)
-}
-
-// Round q, sixteen operations.
-fn round(s: State, block: &[u8], q: usize) -> State
-    requires { (length block.now ≡ 64) × (q < 3) }
-    ensures { result ≡ rounds (operation_of block.now) (16 * q) 16 s }
-{
-    let mut x = s;
-    let mut i = 0;
-    while i < 16 {
-        x = operation(x, block, 16 * q + i);
-        i += 1;
+    let mut r = s;
+    for i in 0..16 {
+        r = operation(r, x, 16 * q + i);
     }
-    x
+    r
 }
 
 // Operation t. The words change their names for the next one. The function's result is added last: it waits for the operation before.
-fn operation(s: State, block: &[u8], t: usize) -> State
-    requires { (length block.now ≡ 64) × (t < 48) }
-    ensures { result ≡ operation_of block.now t s }
+fn operation(s: State, x: &[u32; 16], t: usize) -> State
+    requires { t < 48 }
+    ensures { (block : List ℕ) → x.now ≡ words LowestFirst block 16 → result ≡ operation_of block t s }
 {
-    let sum = add(add(s.a, word_at(block, place(t))), constant(t));
+    let sum = s.a.wrapping_add(x[place(t)]).wrapping_add(constant(t));
     State {
         a: s.d,
-        b: rotl(add(sum, mixed(t, s.b, s.c, s.d)), shift(t)),
+        b: sum
+            .wrapping_add(mixed(t, s.b, s.c, s.d))
+            .rotate_left(shift(t)),
         c: s.b,
         d: s.c,
     }
@@ -139,60 +116,31 @@ fn constant(t: usize) -> u32
     0x6ed9eba1
 }
 
-// The word of the block that operation t takes: a digit of a number in base 16, from the right.
+// The word of the block that operation t takes.
 fn place(t: usize) -> usize
     requires { t < 48 }
     ensures { (result ≡ get_or places t 0) × (result < 16) }
 {
-    let digits = of_round(
-        t,
-        0xfedcba9876543210,
-        0xfb73ea62d951c840,
-        0xf7b3d591e6a2c480,
-    );
-    ((digits >> (4 * (t % 16))) % 16) as usize
+    ((PLACES[t / 16] >> (4 * (t % 16))) % 16) as usize
 }
 
-// By how many places operation t rotates: a digit of a number in base 256.
+// By how many places operation t rotates.
 fn shift(t: usize) -> u32
     requires { t < 48 }
     ensures { result ≡ shift_of t }
 {
-    let digits = of_round(t, 0x130b0703, 0x0d090503, 0x0f0b0903);
-    ((digits >> (8 * (t % 4))) % 256) as u32
+    SHIFTS[t / 16][t % 4]
 }
 
-// The number, of one for each round, for operation t.
-fn of_round(t: usize, a: u64, b: u64, c: u64) -> u64
-    ensures { result ≡ pick (ltb t 16) a (pick (ltb t 32) b c) }
-{
-    if t < 16 {
-        return a;
-    }
-    if t < 32 {
-        return b;
-    }
-    c
-}
-
-// Word i of a block.
-fn word_at(block: &[u8], i: usize) -> u32
-    requires { (length block.now ≡ 64) × (i < 16) }
-    ensures { result ≡ word_le block.now (4 * i) }
-{
-    let at = 4 * i;
-    octets::word(block[at + 3], block[at + 2], block[at + 1], block[at])
-}
-
-// The words after a block's rounds added to those before.
+// The words after a block's rounds added to those before, one by one: each digest has its own.
 fn added(before: State, s: State) -> State
     ensures { result ≡ sums before s }
 {
     State {
-        a: add(s.a, before.a),
-        b: add(s.b, before.b),
-        c: add(s.c, before.c),
-        d: add(s.d, before.d),
+        a: s.a.wrapping_add(before.a),
+        b: s.b.wrapping_add(before.b),
+        c: s.c.wrapping_add(before.c),
+        d: s.d.wrapping_add(before.d),
     }
 }
 
@@ -200,7 +148,5 @@ fn added(before: State, s: State) -> State
 fn octets_in(s: State) -> [u8; 16]
     ensures { result ≡ octets_in s }
 {
-    let mut out = [0u8; 16];
-    octets::put_words(Order::LowestFirst, &[s.a, s.b, s.c, s.d], &mut out);
-    out
+    blocks::octets_of(Order::LowestFirst, &[s.a, s.b, s.c, s.d])
 }

@@ -1,34 +1,39 @@
 -- What only private functions promise: open's table and result in the parts that the code works them out in.
-use Rattle.std.specs.Prelude.{Bool, true, false, not, List, [], ◌∷◌, ◌++◌, ℕ, eqb, ltb, length}
-use Rattle.answer.specs.Answer.{room, protocol, flags, repeat, late, waiting, pick, first_of, on_done}
-use Rattle.octets.specs.Octets.{written}
+use Rattle.std.specs.Prelude.{Bool, true, false, not, ◌||◌, List, [], ◌∷◌, ◌++◌, ℕ, ◌+◌, eqb, ltb, length, Result as Answered}
+use Rattle.answer.specs.declared.Refusal.{Refusal}
+use Rattle.answer.specs.Answer.{room, protocol, flags, repeat, late, waiting, pick, outside, first_of, on_done, result_of}
+use Rattle.octets.specs.Octets.{pair_at, written}
 use Rattle.rc4.specs.declared.Rc4.{Rc4}
-use Rattle.rc4.specs.declared.Ran.{Ran}
 use Rattle.rc4.specs.Cipher.{key_schedule, run, after}
-use Rattle.mppe_keys.specs.declared.Mode.{Mode}
 use Rattle.mppe_keys.specs.Keys.{by_mode}
 use Rattle.mppe.specs.declared.Link.{Link}
 use Rattle.mppe.specs.declared.Outcome.{Outcome}
-use Rattle.mppe.specs.Link.{off_protocol, bit_a, bit_d, lacks, opens_by, session_key_in, with_box, kept_box, Result, front_rows, header_rows, data_rows, opened_by}
+use Rattle.mppe.specs.declared.Judged.{Judged}
+use Rattle.mppe.specs.Link.{shortest_plain, front, off_protocol, bit_a, bit_d, lacks, opens_by, away_for, changes_for, session_key_in, with_box, kept_box, Result, header_rows, data_rows, opened_by}
 
--- the number by the rows that the record and the packet's shape decide: 7, 1
-unfoldable pub front_code : ℕ → Link → List ℕ → ℕ
-front_code limit l packet = first_of (front_rows limit l packet)
+-- a packet has a wrong length or another protocol number: the rows of open's table that its shape decides, as one test
+abbrev pub misshapen : ℕ → List ℕ → Bool
+misshapen limit packet = outside (front + shortest_plain) (front + limit) (length packet) || not (eqb (pair_at 0 packet) 0x00FD)
 
--- the rows that a mode, a mark, a header, its distance, the length of the data and that of the lent buffer decide, 5, 6, 10, 11, 2, and
--- the number by them
-abbrev pub room_rows : (far : ℕ) (mode : Mode) (mark : Bool) (h away n lent : ℕ) → List (ℕ × Bool)
-room_rows far mode mark h away n lent =
-    (flags, by_mode mode (lacks bit_a h) false)
+-- the rows that a record, a header, its distance, the length of the data and that of the lent buffer decide, 5, 6, 10, 11, 2, and the
+-- number by them
+abbrev pub room_rows : (far : ℕ) (l : Link) (h away n lent : ℕ) → List (ℕ × Bool)
+room_rows far l h away n lent =
+    (flags, by_mode l.mode (lacks bit_a h) false)
     ∷ (flags, lacks bit_d h)
     ∷ (repeat, eqb away 0)
     ∷ (late, ltb far away)
-    ∷ (waiting, not (opens_by (lacks bit_a h) away mark))
+    ∷ (waiting, not (opens_by (lacks bit_a h) away l.waiting))
     ∷ (room, ltb lent n)
     ∷ []
 
-unfoldable pub header_code : (far : ℕ) (mode : Mode) (mark : Bool) (h away n lent : ℕ) → ℕ
-header_code far mode mark h away n lent = first_of (room_rows far mode mark h away n lent)
+unfoldable pub header_code : (far : ℕ) (l : Link) (h away n lent : ℕ) → ℕ
+header_code far l h away n lent = first_of (room_rows far l h away n lent)
+
+-- what a record says of a header, and the key changes that its count brings
+unfoldable pub judged_header : (far : ℕ) (l : Link) (h n lent : ℕ) → Judged
+judged_header far l h n lent =
+    record { answer = header_code far l h (away_for l h) n lent; changes = changes_for l h }
 
 -- RC4 keyed afresh with a record's session key, or as the record holds it
 abbrev pub cipher_in : Link → (fresh : Bool) → Rc4
@@ -39,10 +44,8 @@ cipher_in l fresh = pick fresh (key_schedule (session_key_in l)) l.state
 abbrev pub carried_code : (plain : List ℕ) → ℕ
 carried_code plain = first_of ((protocol, off_protocol plain) ∷ [])
 
-unfoldable pub deciphered : (l : Link) (fresh : Bool) (text : List ℕ) → Ran
-deciphered l fresh text =
-    let code : ℕ = carried_code (run (cipher_in l fresh) text) in
-    record { answer = code; state = on_done code (after (cipher_in l fresh) text) l.state }
+unfoldable pub deciphered : (l : Link) (fresh : Bool) (text : List ℕ) → Answered Rc4 Refusal
+deciphered l fresh text = result_of (carried_code (run (cipher_in l fresh) text)) (after (cipher_in l fresh) text)
 
 unfoldable pub deciphered_out : (l : Link) (fresh : Bool) (text out : List ℕ) → List ℕ
 deciphered_out l fresh text out =

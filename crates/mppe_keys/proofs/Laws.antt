@@ -1,8 +1,11 @@
 -- What holds of the keys, once over the key length; only what `key_length` and `head_of` are goes by the strengths.
-use Rattle.std.specs.Prelude.{◌≡◌, refl, List, ◌++◌, ℕ, zero, suc, ◌+◌, ◌≤◌, length, take, drop, replicate}
+use Rattle.std.specs.Prelude.{◌≡◌, refl, List, ◌++◌, ℕ, zero, suc, ◌+◌, ◌≤◌, length, take, drop, replicate, Result, Ok, Err}
+use Rattle.std.specs.Result.{result_unwrap_or}
 use Rattle.std.proofs.Common.{ap, ◌∙◌, add-zero, add-suc, arith, length-append, length-drop, length-take-le, take_all}
 use Rattle.std.proofs.lemmas.List.{length-replicate}
 use Rattle.std.proofs.Math.Seq.{take-append_seam, drop-append_seam}
+use Rattle.answer.specs.declared.Refusal.{Refusal}
+use Rattle.answer.specs.Answer.{value_of}
 use Rattle.octets.specs.Octets.{written}
 use Rattle.octets.specs.Laws.{drop_zeros}
 use Rattle.sha_1.specs.Sha1.{sha1}
@@ -123,3 +126,8 @@ pub changes_add : (s : Strength) (start : List ℕ) (m n : ℕ) (session : List 
 unfolding changes
 changes_add s start m zero session = rw add-zero
 changes_add s start m (suc n) session = rw (add-suc, changes_add s start m n session)
+
+-- the value of a result, as `unwrap_or` tells it
+pub unwrapped : {A : Type 0} (zeros : A) (r : Result A Refusal) → result_unwrap_or r zeros ≡ value_of zeros r
+unwrapped zeros (Ok x) = refl
+unwrapped zeros (Err e) = refl

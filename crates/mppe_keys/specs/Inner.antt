@@ -1,13 +1,7 @@
 -- What only private functions promise.
-use Rattle.std.specs.Prelude.{◌≡◌, List, ◌++◌, ℕ, length, replicate}
-use Rattle.answer.specs.Answer.{size}
+use Rattle.std.specs.Prelude.{◌≡◌, List, ◌++◌, ℕ, length}
 use Rattle.mppe_keys.specs.declared.Strength.{Strength}
-use Rattle.mppe_keys.specs.declared.Key.{Key}
 use Rattle.mppe_keys.specs.Keys.{key_length, key_text, changes}
-
--- what a wrong length is answered
-abbrev pub refused_key : Key
-refused_key = record { answer = size; octets = replicate 16 0 }
 
 -- a hashed text that holds a start and a session key has, n key changes later, the new session key in place of the old
 unfoldable pub Changed : Strength → ℕ → List ℕ → List ℕ → Type 0

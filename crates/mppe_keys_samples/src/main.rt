@@ -1,9 +1,10 @@
 // Derives the keys of RFC 3079, section 3.5, changes them, tries the limits of 01, and prints what is answered.
 #![tactic(auto)]
 
-ghost use Rattle.std.specs.Prelude.{◌≤◌};
+ghost use Rattle.std.specs.Prelude.{◌≤◌, length};
 
-use mppe_keys::{Direction, Key, Role, Strength};
+use answer::{Refusal, number_of};
+use mppe_keys::{Direction, Role, Strength};
 use rc4::Rc4;
 use std::io;
 use std::io::{BufWriter, Write};
@@ -42,9 +43,15 @@ fn print_all<W: Write>(writer: &mut W) -> io::Result<()> {
     places(writer)?;
     masters(writer)?;
     starts(writer)?;
-    lengths(writer, b"lengths at 40 bits", Strength::Bits40, 8)?;
-    lengths(writer, b"lengths at 56 bits", Strength::Bits56, 8)?;
-    lengths(writer, b"lengths at 128 bits", Strength::Bits128, 16)
+    let strengths: [(&[u8], Strength); 3] = [
+        (b"lengths at 40 bits", Strength::Bits40),
+        (b"lengths at 56 bits", Strength::Bits56),
+        (b"lengths at 128 bits", Strength::Bits128),
+    ];
+    for (label, strength) in strengths {
+        lengths(writer, label, strength)?;
+    }
+    Ok(())
 }
 
 // Section 3.5, from the master key on.
@@ -56,92 +63,83 @@ fn samples<W: Write>(writer: &mut W) -> io::Result<()> {
         b"master key",
         mppe_keys::master_key(&HASH_HASH, &NT_RESPONSE),
     )?;
-    derived(writer, b"40 bits", Strength::Bits40, 8, master)?;
-    derived(writer, b"56 bits", Strength::Bits56, 8, master)?;
-    derived(writer, b"128 bits", Strength::Bits128, 16, master)
+    let strengths: [(&[u8], Strength); 3] = [
+        (b"40 bits", Strength::Bits40),
+        (b"56 bits", Strength::Bits56),
+        (b"128 bits", Strength::Bits128),
+    ];
+    for (label, strength) in strengths {
+        derived(writer, label, strength, &master)?;
+    }
+    Ok(())
 }
 
-// Prints a key, and hands back its octets.
-fn shown<W: Write>(writer: &mut W, label: &[u8], key: Key) -> io::Result<[u8; 16]> {
-    let octets = key.octets;
-    report::line(writer, label, key.answer, &octets)?;
+// Prints a key, and hands back its octets: zeros where it is refused.
+fn shown<W: Write>(
+    writer: &mut W,
+    label: &[u8],
+    key: Result<[u8; 16], Refusal>,
+) -> io::Result<[u8; 16]> {
+    let number = number_of(&key);
+    let octets = key.unwrap_or([0; 16]);
+    report::line(writer, label, number, &octets)?;
     Ok(octets)
 }
 
-// Section 3.5 at one strength, for both ends of the link.
+// The same for keys under their labels.
+fn show_all<W: Write>(
+    writer: &mut W,
+    keys: &[(&[u8], Result<[u8; 16], Refusal>)],
+) -> io::Result<()> {
+    for (label, key) in keys {
+        shown(writer, label, *key)?;
+    }
+    Ok(())
+}
+
+// Section 3.5 at one strength, for both ends of the link: the server's session keys too.
 fn derived<W: Write>(
     writer: &mut W,
     label: &[u8],
     strength: Strength,
-    n: usize,
-    master: [u8; 16],
-) -> io::Result<()>
-    requires { n ≤ 16 }
-{
-    report::line(writer, label, 0, &master)?;
-    let sent = start(
-        writer,
-        b"server sends",
-        strength,
-        Role::Server,
-        Direction::Send,
-        &master,
-    )?;
-    session(writer, strength, &sent[0..n], n)?;
-    let received = start(
-        writer,
-        b"server receives",
-        strength,
-        Role::Server,
-        Direction::Receive,
-        &master,
-    )?;
-    session(writer, strength, &received[0..n], n)?;
-    start(
-        writer,
-        b"client sends",
-        strength,
-        Role::Client,
-        Direction::Send,
-        &master,
-    )?;
-    start(
-        writer,
-        b"client receives",
-        strength,
-        Role::Client,
-        Direction::Receive,
-        &master,
-    )?;
+    master: &[u8; 16],
+) -> io::Result<()> {
+    report::line(writer, label, 0, master)?;
+    let sides: [(&[u8], Role, Direction); 4] = [
+        (b"server sends", Role::Server, Direction::Send),
+        (b"server receives", Role::Server, Direction::Receive),
+        (b"client sends", Role::Client, Direction::Send),
+        (b"client receives", Role::Client, Direction::Receive),
+    ];
+    for (label, role, direction) in sides {
+        let start = shown(
+            writer,
+            label,
+            mppe_keys::start_key(strength, role, direction, master),
+        )?;
+        if role == Role::Server {
+            session(writer, strength, part(strength, &start))?;
+        }
+    }
     Ok(())
 }
 
-// Prints a start key, and hands back its octets.
-fn start<W: Write>(
-    writer: &mut W,
-    label: &[u8],
-    strength: Strength,
-    role: Role,
-    direction: Direction,
-    master: &[u8; 16],
-) -> io::Result<[u8; 16]> {
-    shown(
-        writer,
-        label,
-        mppe_keys::start_key(strength, role, direction, master),
-    )
+// The octets of a key in 16 places.
+fn part(strength: Strength, key: &[u8; 16]) -> &[u8] {
+    match strength {
+        Strength::Bits40 | Strength::Bits56 => &key[..8],
+        Strength::Bits128 => &key[..],
+    }
 }
 
 // The session keys of a start key.
-fn session<W: Write>(writer: &mut W, strength: Strength, start: &[u8], n: usize) -> io::Result<()>
-    requires { n ≤ 16 }
-{
+fn session<W: Write>(writer: &mut W, strength: Strength, start: &[u8]) -> io::Result<()> {
     let first = shown(
         writer,
         b"initial session key",
         mppe_keys::initial_session_key(strength, start),
     )?;
-    changes(writer, strength, start, &first[0..n])
+    changes(writer, strength, start, part(strength, &first))
 }
 
 // The session keys from the first one on, and the sample's message under that one.
@@ -152,30 +150,26 @@ fn changes<W: Write>(
     first: &[u8],
 ) -> io::Result<()> {
     encrypted(writer, first, &mut [0u8; 12])?;
-    shown(
+    show_all(
         writer,
-        b"new key",
-        mppe_keys::new_key(strength, start, first),
+        &[
+            (b"new key", mppe_keys::new_key(strength, start, first)),
+            (
+                b"after one key change",
+                mppe_keys::key_change(strength, start, first),
+            ),
+        ],
     )?;
-    shown(
-        writer,
-        b"after one key change",
-        mppe_keys::key_change(strength, start, first),
-    )?;
-    changed(writer, strength, start, first, 0)?;
-    changed(writer, strength, start, first, 1)?;
-    changed(writer, strength, start, first, 2)?;
-    changed(writer, strength, start, first, 3)?;
-    changed(writer, strength, start, first, 255)?;
-    changed(writer, strength, start, first, 4095)
+    for n in [0, 1, 2, 3, 255, 4095] {
+        changed(writer, strength, start, first, n)?;
+    }
+    Ok(())
 }
 
 // Prints "test message" enciphered under a session key.
 fn encrypted<W: Write>(writer: &mut W, session: &[u8], out: &mut [u8]) -> io::Result<()> {
-    let keyed = Rc4::keyed(session);
-    let state = keyed.state;
-    let ran = state.run(b"test message", out);
-    report::line(writer, b"test message", ran.answer, out)
+    let left = Rc4::keyed(session).and_then(|state| state.run(b"test message", out));
+    report::line(writer, b"test message", number_of(&left), out)
 }
 
 // Prints the session key after n key changes.
@@ -187,132 +181,117 @@ fn changed<W: Write>(
     n: usize,
 ) -> io::Result<()> {
     let key = mppe_keys::key_changes(strength, start, session, n);
-    let octets = key.octets;
-    report::numbered(writer, b"key changes", n, key.answer, &octets)
+    let number = number_of(&key);
+    report::numbered(writer, b"key changes", n, number, &key.unwrap_or([0; 16]))
 }
 
 // Reduced keys.
 fn reduced<W: Write>(writer: &mut W) -> io::Result<()> {
-    shown(
+    show_all(
         writer,
-        b"reduced to 40 bits",
-        mppe_keys::reduce(Strength::Bits40, &UNREDUCED),
-    )?;
-    shown(
-        writer,
-        b"reduced to 56 bits",
-        mppe_keys::reduce(Strength::Bits56, &UNREDUCED),
-    )?;
-    shown(
-        writer,
-        b"reduced to 128 bits",
-        mppe_keys::reduce(Strength::Bits128, &HASH_HASH),
-    )?;
-    Ok(())
-}
-
-// Keys in 16 places, with octets behind them that no strength of 8 octets reads.
-fn places<W: Write>(writer: &mut W) -> io::Result<()> {
-    placed(writer, b"40 bits in 16 places", Strength::Bits40, 2)?;
-    placed(writer, b"56 bits in 16 places", Strength::Bits56, 2)?;
-    placed(writer, b"128 bits in 16 places", Strength::Bits128, 2)?;
-    placed(writer, b"none of them", Strength::Bits56, 0)
-}
-
-// Prints a key in 16 places after n key changes.
-fn placed<W: Write>(writer: &mut W, label: &[u8], strength: Strength, n: usize) -> io::Result<()> {
-    report::line(
-        writer,
-        label,
-        0,
-        &mppe_keys::placed_key_changes(strength, HASH_HASH, [0x5Au8; 16], n),
+        &[
+            (
+                b"reduced to 40 bits",
+                mppe_keys::reduce(Strength::Bits40, &UNREDUCED),
+            ),
+            (
+                b"reduced to 56 bits",
+                mppe_keys::reduce(Strength::Bits56, &UNREDUCED),
+            ),
+            (
+                b"reduced to 128 bits",
+                mppe_keys::reduce(Strength::Bits128, &HASH_HASH),
+            ),
+        ],
     )
+}
+
+// Keys in 16 places after key changes, with octets behind them that no strength of 8 octets reads.
+fn places<W: Write>(writer: &mut W) -> io::Result<()> {
+    let cases: [(&[u8], Strength, usize); 4] = [
+        (b"40 bits in 16 places", Strength::Bits40, 2),
+        (b"56 bits in 16 places", Strength::Bits56, 2),
+        (b"128 bits in 16 places", Strength::Bits128, 2),
+        (b"none of them", Strength::Bits56, 0),
+    ];
+    for (label, strength, n) in cases {
+        let key = mppe_keys::placed_key_changes(strength, HASH_HASH, [0x5A; 16], n);
+        report::line(writer, label, 0, &key)?;
+    }
+    Ok(())
 }
 
 // Master keys of inputs one octet too short or too long, and the start key of a right one.
 fn masters<W: Write>(writer: &mut W) -> io::Result<()> {
-    let right = master(writer, b"master key of counted octets", 16, 24)?;
-    master(writer, b"hash-hash of 15 octets", 15, 24)?;
-    master(writer, b"hash-hash of 17 octets", 17, 24)?;
-    master(writer, b"NT-Response of 23 octets", 16, 23)?;
-    master(writer, b"NT-Response of 25 octets", 16, 25)?;
-    master(writer, b"both empty", 0, 0)?;
-    start(
-        writer,
-        b"start key of it",
-        Strength::Bits56,
-        Role::Client,
-        Direction::Send,
-        &right,
-    )?;
-    Ok(())
-}
-
-// Prints the master key of so many octets of a hash-hash and of an NT-Response, and hands back its octets.
-fn master<W: Write>(
-    writer: &mut W,
-    label: &[u8],
-    hash: usize,
-    response: usize,
-) -> io::Result<[u8; 16]>
-    requires { (hash ≤ 32) × (response ≤ 32) }
-{
     let counted = &COUNTED[..];
-    shown(
+    let right = shown(
         writer,
-        label,
-        mppe_keys::master_key(&counted[0..hash], &counted[0..response]),
+        b"master key of counted octets",
+        mppe_keys::master_key(&counted[..16], &counted[..24]),
+    )?;
+    show_all(
+        writer,
+        &[
+            (
+                b"hash-hash of 15 octets",
+                mppe_keys::master_key(&counted[..15], &counted[..24]),
+            ),
+            (
+                b"hash-hash of 17 octets",
+                mppe_keys::master_key(&counted[..17], &counted[..24]),
+            ),
+            (
+                b"NT-Response of 23 octets",
+                mppe_keys::master_key(&counted[..16], &counted[..23]),
+            ),
+            (
+                b"NT-Response of 25 octets",
+                mppe_keys::master_key(&counted[..16], &counted[..25]),
+            ),
+            (b"both empty", mppe_keys::master_key(b"", b"")),
+            (
+                b"start key of it",
+                mppe_keys::start_key(Strength::Bits56, Role::Client, Direction::Send, &right),
+            ),
+        ],
     )
 }
 
 // Start keys of master keys one octet too short or too long.
 fn starts<W: Write>(writer: &mut W) -> io::Result<()> {
-    shown(
+    show_all(
         writer,
-        b"master key of 15 octets",
-        mppe_keys::start_key(
-            Strength::Bits128,
-            Role::Client,
-            Direction::Send,
-            &COUNTED[..15],
-        ),
-    )?;
-    shown(
-        writer,
-        b"master key of 17 octets",
-        mppe_keys::start_key(
-            Strength::Bits40,
-            Role::Server,
-            Direction::Receive,
-            &COUNTED[..17],
-        ),
-    )?;
-    Ok(())
-}
-
-// Keys of n octets, the length of their strength, and one octet shorter and longer.
-fn lengths<W: Write>(writer: &mut W, label: &[u8], strength: Strength, n: usize) -> io::Result<()>
-    requires { (1 ≤ n) × (n ≤ 31) }
-{
-    let counted = &COUNTED[..];
-    report::line(writer, label, 0, &counted[0..n])?;
-    sized(
-        writer,
-        strength,
-        &counted[0..n - 1],
-        &counted[0..n],
-        &counted[0..n + 1],
+        &[
+            (
+                b"master key of 15 octets",
+                mppe_keys::start_key(
+                    Strength::Bits128,
+                    Role::Client,
+                    Direction::Send,
+                    &COUNTED[..15],
+                ),
+            ),
+            (
+                b"master key of 17 octets",
+                mppe_keys::start_key(
+                    Strength::Bits40,
+                    Role::Server,
+                    Direction::Receive,
+                    &COUNTED[..17],
+                ),
+            ),
+        ],
     )
 }
 
-// Every call on keys of these lengths.
-fn sized<W: Write>(
-    writer: &mut W,
-    strength: Strength,
-    short: &[u8],
-    right: &[u8],
-    long: &[u8],
-) -> io::Result<()> {
+// Every call on keys of the length of their strength, and of one octet less and more.
+#[tactic(auto, using(mppe_keys::proofs::Laws::key_least, mppe_keys::proofs::Laws::key_most))]
+fn lengths<W: Write>(writer: &mut W, label: &[u8], strength: Strength) -> io::Result<()> {
+    let n = mppe_keys::key_length(strength);
+    let short = &COUNTED[..n - 1];
+    let right = &COUNTED[..n];
+    let long = &COUNTED[..n + 1];
+    report::line(writer, label, 0, right)?;
     one_key(writer, strength, short, right, long)?;
     one_change(writer, strength, short, right, long)?;
     changes_and_new_keys(writer, strength, short, right, long)
@@ -326,25 +305,23 @@ fn one_key<W: Write>(
     right: &[u8],
     long: &[u8],
 ) -> io::Result<()> {
-    shown(
+    show_all(
         writer,
-        b"initial",
-        mppe_keys::initial_session_key(strength, right),
-    )?;
-    shown(
-        writer,
-        b"initial, short",
-        mppe_keys::initial_session_key(strength, short),
-    )?;
-    shown(
-        writer,
-        b"initial, long",
-        mppe_keys::initial_session_key(strength, long),
-    )?;
-    shown(writer, b"reduce", mppe_keys::reduce(strength, right))?;
-    shown(writer, b"reduce, short", mppe_keys::reduce(strength, short))?;
-    shown(writer, b"reduce, long", mppe_keys::reduce(strength, long))?;
-    Ok(())
+        &[
+            (b"initial", mppe_keys::initial_session_key(strength, right)),
+            (
+                b"initial, short",
+                mppe_keys::initial_session_key(strength, short),
+            ),
+            (
+                b"initial, long",
+                mppe_keys::initial_session_key(strength, long),
+            ),
+            (b"reduce", mppe_keys::reduce(strength, right)),
+            (b"reduce, short", mppe_keys::reduce(strength, short)),
+            (b"reduce, long", mppe_keys::reduce(strength, long)),
+        ],
+    )
 }
 
 // One key change.
@@ -355,31 +332,20 @@ fn one_change<W: Write>(
     right: &[u8],
     long: &[u8],
 ) -> io::Result<()> {
-    shown(
-        writer,
-        b"change",
-        mppe_keys::key_change(strength, right, right),
-    )?;
-    shown(
-        writer,
-        b"change, start short",
-        mppe_keys::key_change(strength, short, right),
-    )?;
-    shown(
-        writer,
-        b"change, start long",
-        mppe_keys::key_change(strength, long, right),
-    )?;
-    shown(
-        writer,
-        b"change, session short",
-        mppe_keys::key_change(strength, right, short),
-    )?;
-    shown(
-        writer,
-        b"change, session long",
-        mppe_keys::key_change(strength, right, long),
-    )?;
+    let cases: [(&[u8], &[u8], &[u8]); 5] = [
+        (b"change", right, right),
+        (b"change, start short", short, right),
+        (b"change, start long", long, right),
+        (b"change, session short", right, short),
+        (b"change, session long", right, long),
+    ];
+    for (label, start, session) in cases {
+        shown(
+            writer,
+            label,
+            mppe_keys::key_change(strength, start, session),
+        )?;
+    }
     Ok(())
 }
 
@@ -391,24 +357,27 @@ fn changes_and_new_keys<W: Write>(
     right: &[u8],
     long: &[u8],
 ) -> io::Result<()> {
-    changed(writer, strength, right, right, 7)?;
-    changed(writer, strength, short, right, 7)?;
-    changed(writer, strength, right, long, 7)?;
-    changed(writer, strength, short, long, 0)?;
-    shown(
+    let several = [
+        (right, right, 7),
+        (short, right, 7),
+        (right, long, 7),
+        (short, long, 0),
+    ];
+    for (start, session, n) in several {
+        changed(writer, strength, start, session, n)?;
+    }
+    show_all(
         writer,
-        b"new key",
-        mppe_keys::new_key(strength, right, right),
-    )?;
-    shown(
-        writer,
-        b"new key, start short",
-        mppe_keys::new_key(strength, short, right),
-    )?;
-    shown(
-        writer,
-        b"new key, session long",
-        mppe_keys::new_key(strength, right, long),
-    )?;
-    Ok(())
+        &[
+            (b"new key", mppe_keys::new_key(strength, right, right)),
+            (
+                b"new key, start short",
+                mppe_keys::new_key(strength, short, right),
+            ),
+            (
+                b"new key, session long",
+                mppe_keys::new_key(strength, right, long),
+            ),
+        ],
+    )
 }

@@ -2,20 +2,24 @@
 use mathlib.Core.Path.{◌≡◌, refl, sym, ap, ◌∙◌}
 use mathlib.Core.Bool.{Bool, true, false, not, ◌&&◌, ◌||◌, true≢false, false≢true}
 use mathlib.Core.List.{List, [], ◌∷◌, ◌++◌, append-nil}
-use Prim.Native.Nat.{ℕ, zero, suc, ◌+◌, ◌*◌, ◌-◌, ◌/◌, ◌%◌, ◌<◌, ◌≤◌}
+use Prim.Native.Nat.{ℕ, zero, suc, ◌+◌, ◌*◌, ◌-◌, ◌%◌, ◌<◌, ◌≤◌}
 use native.Mathlib.Nat.{suc-ne-zero}
 use native.Mathlib.Omega.{arith}
+use Rattle.std.specs.Prelude.{Option, Some, None, IfSome}
+use Rattle.std.specs.Option.{is_some}
 use lib.Bits.{bit_xor}
-use lib.Dec.{eqb, ltb, leb}
-use lib.ListN.{length, take, drop, get_or, set, drop_of_length-le, length-drop}
+use lib.Dec.{eqb, ltb}
+use lib.ListN.{length, take, drop, get_or, drop_of_length-le, length-drop}
 use lib.Seq.{take_all, drop-drop, length-take-le}
-use borrow.Author.Tests.{lt-ltb, le-ltb, le-leb, lt-leb, ne_eqb, ltb-true, ltb-false, eqb-true, not-true, not-false}
+use borrow.Author.Tests.{lt-ltb, le-ltb, ne_eqb, ltb-false, eqb-true, not-true, not-false}
 use borrow.Rule.Slice.PartMut.{put_mid}
-use Rattle.answer.specs.Answer.{done, shape, room, size, protocol, not_record, waiting, pick, outside, wrong, first_of, on_done}
+use Rattle.answer.specs.Answer.{done, shape, room, size, not_record, waiting, pick, outside, wrong, first_of, on_done}
 use Rattle.answer.specs.Laws.{both, clear, rows_pass, rows_stop, within}
 use Rattle.octets.specs.Octets.{pair_at, written, written_at, longest_text}
 use Rattle.rc4.specs.declared.Rc4.{Rc4}
-use Rattle.rc4.specs.declared.Ran.{Ran}
+use Rattle.std.specs.Prelude.{Ok, Result as Answered}
+use Rattle.answer.specs.declared.Refusal.{Refusal}
+use Rattle.answer.specs.Answer.{value_of}
 use Rattle.rc4.specs.declared.Drawn.{Drawn}
 use Rattle.rc4.specs.Cipher.{key_schedule, run, after}
 use Rattle.rc4.specs.Answers.{draw_answer, run_answer, run_out}
@@ -29,26 +33,7 @@ use Rattle.mppe.specs.Link.{shortest_plain, longest_plain, front, farthest, well
 use Rattle.mppe.proofs.Laws.{key_back}
 use Rattle.mppe_pieces.specs.declared.Walk.{Walk}
 use Rattle.mppe_pieces.specs.declared.Step.{Step}
-use Rattle.mppe_pieces.specs.Walk.{over, over_with, on_with, begin_code, walk_of, begin_step, goes_on, opened, early, judged_off, feed_rows, feed_code, moved_on, walk_after, buffer_after, closes, feed_result, link_left, end_code, end_step}
-
--- whether a walk goes on, test by test
-pub goes_dead : (live : Bool) (rest last : Bool) → live ≡ false → false ≡ (live && rest && last)
-goes_dead live rest last e = rw e
-
-pub goes_refused : (live : Bool) (code : ℕ) (last : Bool) → live ≡ true → (code ≡ done → ⊥) → false ≡ (live && eqb code done && last)
-goes_refused live code last e some = rw (e, ne_eqb code done some)
-
-pub goes_last : (live : Bool) (code total fed : ℕ) → live ≡ true → code ≡ done → leb fed total ≡ (live && eqb code done && not (ltb total fed))
-goes_last live code total fed e none = rw (e, none) (by (ltb total fed) refl)
-  where
-    by : (t : Bool) → ltb total fed ≡ t → leb fed total ≡ not t
-    by true h = lt-leb fed total (ltb-true total fed h)
-    by false h = le-leb fed total (ltb-false total fed h)
-
-pub goes_is : {j : Judged} {r : Bool} (w : Walk) → j ≡ judged longest_plain farthest w.link w.header w.total
-    → r ≡ (w.live && eqb j.answer done && not (ltb w.total w.fed)) → r ≡ goes_on longest_plain farthest w
-unfolding goes_on judged
-goes_is w ej e = e ∙ rw ej
+use Rattle.mppe_pieces.specs.Walk.{over, over_with, on_with, begin_code, walk_of, begin_step, goes_on, opened, early, judged_off, feed_rows, feed_code, moved_on, walk_after, buffer_after, closes, feed_result}
 
 -- what a walk that goes on has: a well-formed record, a total within its limits, and no more fed
 pub goes_within : (limit far : ℕ) (w : Walk) → goes_on limit far w ≡ true
@@ -61,27 +46,36 @@ goes_within limit far w e =
     let (low, high) = within shortest_plain limit w.total (clear shape rows refl none).0 in
     (not-false (well_formed w.link) (clear not_record rows refl none).0, low, high, ltb-false w.total w.fed (not-true (ltb w.total w.fed) fed))
 
--- fewer than both protocol octets
-pub early_less : (fed more : ℕ) → fed < 2 → ltb more (2 - fed) ≡ early (fed + more)
-early_less fed more h = by (early (fed + more)) refl
-  where
-    by : (t : Bool) → ltb (fed + more) 2 ≡ t → ltb more (2 - fed) ≡ t
-    by true e = lt-ltb more (2 - fed) (omega (arith, ltb-true (fed + more) 2 e))
-    by false e = le-ltb more (2 - fed) (omega (arith, ltb-false (fed + more) 2 e))
+-- whether a walk goes on: the key changes that it then has
+pub record GoesOn (w : Walk) (r : Option ℕ) : Type 0 where
+  pub is : r ≡ pick (goes_on longest_plain farthest w) (Some (changes_for w.link w.header)) None
+  pub on : is_some r ≡ goes_on longest_plain farthest w
+  pub fits : IfSome r (λ n. (shortest_plain ≤ w.total) × (w.total ≤ longest_plain) × (w.fed ≤ w.total))
 
-pub early_past : (fed more : ℕ) → 2 ≤ fed → false ≡ early (fed + more)
-early_past fed more h = sym (le-ltb (fed + more) 2 (omega arith))
+all_hold : (w : Walk) → w.live ≡ true → first_of (judged_rows longest_plain farthest w.link w.header w.total) ≡ done → w.fed ≤ w.total
+    → goes_on longest_plain farthest w ≡ true
+unfolding goes_on
+all_hold w live code fits = rw (live, code, le-ltb w.total w.fed fits)
 
-pub early_not : {e : Bool} (fed more : ℕ) → e ≡ early (fed + more) → e ≡ false → 2 ≤ fed + more
-early_not fed more e f = ltb-false (fed + more) 2 (sym e ∙ f)
+pub goes_on_is : {j : Judged} (w : Walk) → j ≡ judged longest_plain farthest w.link w.header w.total → w.live ≡ true → j.answer ≡ done → w.fed ≤ w.total
+    → GoesOn w (Some j.changes)
+unfolding judged
+goes_on_is {j = j} w ej live none fits =
+    let rows : List (ℕ × Bool) = judged_rows longest_plain farthest w.link w.header w.total in
+    let code : first_of rows ≡ done = sym (ap (λ (x : Judged). x.answer) ej) ∙ none in
+    let on = all_hold w live code fits in
+    let (well, low, high, _) = goes_within longest_plain farthest w on in
+    let brought : j.changes ≡ changes_for w.link w.header = ap (λ (x : Judged). x.changes) ej ∙ rw well in
+    record { is = rw (on, brought); on = sym on; fits = (low, high, fits) }
+
+pub goes_off : {j : Judged} (w : Walk) → j ≡ judged longest_plain farthest w.link w.header w.total
+    → (w.live && eqb j.answer done && not (ltb w.total w.fed)) ≡ false → GoesOn w None
+unfolding judged
+goes_off w ej off =
+    let no : goes_on longest_plain farthest w ≡ false = unfold goes_on in rw ej at off in
+    record { is = rw no; on = sym no; fits = tt }
 
 -- the protocol number, judged by the piece that brings its second octet
-pub judged_past : (w : Walk) (piece : List ℕ) → 2 ≤ w.fed → false ≡ judged_off w piece
-judged_past w piece h = rw (le-ltb w.fed 2 h)
-
-pub judged_early : {e : Bool} (w : Walk) (piece : List ℕ) → w.fed < 2 → e ≡ early (w.fed + length piece) → e ≡ true → false ≡ judged_off w piece
-judged_early w piece h e t = rw (lt-ltb w.fed 2 h, ← e, t)
-
 pub judged_both : {e r : Bool} (w : Walk) (piece : List ℕ) → w.fed ≡ 0 → e ≡ early (w.fed + length piece) → e ≡ false
     → r ≡ off_protocol (run w.state piece) → r ≡ judged_off w piece
 unfolding opened
@@ -94,6 +88,14 @@ judged_second w [] h some e f ed off = absurd (omega (arith, ltb-false (w.fed + 
 judged_second w (x ∷ xs) h some e f ed off =
     let one : w.fed ≡ 1 = omega arith in
     rw (← e, f, one) (off ∙ rw ed)
+
+-- RC4 run over a text that fits, and the state that it leaves
+pub run_fits : {r : Answered Rc4 Refusal} (s : Rc4) (text out : List ℕ) → r ≡ run_answer s text out → length text ≤ longest_text → length text ≤ length out
+    → r ≡ Ok (after s text)
+run_fits s text out e short fits = e ∙ (run_done s text out short fits).0
+
+drawn_is : {r : Answered Rc4 Refusal} {x left : Rc4} → r ≡ Ok x → r ≡ Ok left → left ≡ x
+drawn_is {x = x} e h = ap (value_of x) (sym h ∙ e)
 
 -- the first two octets of a text decide
 pub number_runs : {plain : List ℕ} {r : Bool} (s : Rc4) (text : List ℕ) → plain ≡ run_out s (take 2 text) (0 ∷ 0 ∷ [])
@@ -114,44 +116,25 @@ feed_bounds w piece lent e z =
     let (well, low, high, fed) = goes_within longest_plain farthest w (not-false (goes_on longest_plain farthest w) (clear not_record rows refl zero).0) in
     (low, high, ltb-false lent w.total (clear room rows refl zero).0, ltb-false w.total (w.fed + length piece) (clear size rows refl zero).0)
 
--- a refused feed: 3 and 4 close the walk, any other number hands it back
-pub refused_closed : {r : Step} (code : ℕ) (w : Walk) → closes code ≡ true → r ≡ on_with code (over w.link) → r ≡ on_with code (pick (closes code) (over w.link) w)
-refused_closed code w e er = rw e er
-
-pub refused_stays : (code : ℕ) (w : Walk) → (code ≡ size → ⊥) → (code ≡ protocol → ⊥) → on_with code w ≡ on_with code (pick (closes code) (over w.link) w)
-refused_stays code w a b = rw (ne_eqb code size a, ne_eqb code protocol b)
-
 -- a first octet that came alone
-pub lone_first : (fed first octet : ℕ) → fed ≡ 1 → first ≡ pick (eqb fed 1) first octet
-lone_first fed first octet e = rw e
-
-pub lone_new : (fed first octet : ℕ) → (fed ≡ 1 → ⊥) → octet ≡ pick (eqb fed 1) first octet
-lone_new fed first octet e = rw (ne_eqb fed 1 e)
-
 head_written : (s : Rc4) (piece : List ℕ) → get_or (written (run s piece) (0 ∷ [])) 0 0 ≡ get_or (run s piece) 0 0
 unfolding run
 head_written s [] = refl
 head_written s (x ∷ xs) = refl
 
-pub kept_is : {ran : Ran} {plain : List ℕ} {first : ℕ} {r : Step} (w : Walk) (piece : List ℕ) → w.fed + length piece < 2
-    → (ran ≡ run_answer w.state piece (0 ∷ [])) × (plain ≡ run_out w.state piece (0 ∷ [])) → first ≡ pick (eqb w.fed 1) w.first (get_or plain 0 0)
-    → r ≡ on_with done (moved_on w (w.fed + length piece) ran.state first) → r ≡ on_with done (walk_after w piece)
+pub kept_is : {ran : Answered Rc4 Refusal} {left : Rc4} {plain : List ℕ} {first : ℕ} {r : Step} (w : Walk) (piece : List ℕ) → w.fed + length piece < 2
+    → (ran ≡ run_answer w.state piece (0 ∷ [])) × (plain ≡ run_out w.state piece (0 ∷ [])) → ran ≡ Ok left
+    → first ≡ pick (eqb w.fed 1) w.first (get_or plain 0 0)
+    → r ≡ on_with done (moved_on w (w.fed + length piece) left first) → r ≡ on_with done (walk_after w piece)
 unfolding opened
-kept_is w piece few (er, ep) ef e =
+kept_is w piece few (er, ep) el ef e =
     let (state_is, out-is) = run_done w.state piece (0 ∷ []) (omega arith) (omega arith) in
-    e ∙ rw (er, state_is, lt-ltb (w.fed + length piece) 2 few, ef, ep, out-is, head_written w.state piece, by (eqb w.fed 1))
+    let left-is = drawn_is (er ∙ state_is) el in
+    e ∙ rw (left-is, lt-ltb (w.fed + length piece) 2 few, ef, ep, out-is, head_written w.state piece, by (eqb w.fed 1))
   where
     by : (t : Bool) → pick t w.first (get_or (run w.state piece) 0 0) ≡ get_or (pick t (w.first ∷ []) [] ++ run w.state piece) 0 0
     by true = refl
     by false = refl
-
--- that octet put in front
-pub put_one : (fed first : ℕ) (out : List ℕ) → fed ≡ 1 → 1 ≤ length out → set out 0 first ≡ written (pick (eqb fed 1) (first ∷ []) []) out
-put_one fed first [] e h = absurd (omega arith)
-put_one fed first (x ∷ out) e h = rw e
-
-pub put_none : (fed first : ℕ) (out : List ℕ) → (fed ≡ 1 → ⊥) → out ≡ written (pick (eqb fed 1) (first ∷ []) []) out
-put_none fed first out e = rw (ne_eqb fed 1 e)
 
 -- a refused feed leaves the buffer, and so does one that keeps what it opens
 pub feed_refused : {r : Step} (code : ℕ) (w : Walk) (piece out : List ℕ) → code ≡ feed_code longest_plain farthest w piece (length out) → (code ≡ done → ⊥)
@@ -198,53 +181,39 @@ first_long fed first out e h = rw e (by (eqb fed 1) out h)
     by true (x ∷ out) h = refl
     by false out h = refl
 
--- a feed that writes
-pub feed_written : {code : ℕ} {e : Bool} {r : Step} {ran : Ran} {out₁ ys : List ℕ} (w : Walk) (piece out : List ℕ)
-    → code ≡ feed_code longest_plain farthest w piece (length out) → code ≡ done → e ≡ early (w.fed + length piece) → e ≡ false
+-- a feed that writes: RC4 runs over its piece, which fits
+pub feed_runs : {code : ℕ} {ran : Answered Rc4 Refusal} {out₁ : List ℕ} (w : Walk) (piece out : List ℕ)
+    → code ≡ feed_code longest_plain farthest w piece (length out) → code ≡ done
     → out₁ ≡ written (pick (eqb w.fed 1) (w.first ∷ []) []) out
-    → (ran ≡ run_answer w.state piece (take (length out₁ - w.fed) (drop w.fed out₁)))
-    × (ys ≡ run_out w.state piece (take (length out₁ - w.fed) (drop w.fed out₁)))
-    → r ≡ on_with done (moved_on w (w.fed + length piece) ran.state 0)
-    → (r ≡ (feed_result longest_plain farthest w piece out).step)
-    × (put_mid w.fed (length out₁ - w.fed) out₁ ys ≡ (feed_result longest_plain farthest w piece out).buffer)
-unfolding feed_result
-feed_written {r = r} {out₁ = out₁} w piece out c z e f eo (en, ey) er =
+    → ran ≡ run_answer w.state piece (take (length out₁ - w.fed) (drop w.fed out₁)) → ran ≡ Ok (after w.state piece)
+feed_runs {out₁ = out₁} w piece out c z eo er =
     let (low, high, roomy, fits) = feed_bounds w piece (length out) c z in
     let long = first_long w.fed w.first out eo (omega (arith, low, roomy)) in
     let part : List ℕ = take (length out₁ - w.fed) (drop w.fed out₁) in
     let part-long : length part ≡ length out₁ - w.fed =
     length-take-le (length out₁ - w.fed) (drop w.fed out₁) (omega (arith, length-drop w.fed out₁)) in
-    let ran-is = run_done w.state piece part (omega (arith, high, fits)) (omega (arith, part-long, long, roomy, fits)) in
+    run_fits w.state piece part er (omega (arith, high, fits)) (omega (arith, part-long, long, roomy, fits))
+
+pub feed_written : {code : ℕ} {e : Bool} {r : Step} {ran : Answered Rc4 Refusal} {left : Rc4} {out₁ ys : List ℕ} (w : Walk) (piece out : List ℕ)
+    → code ≡ feed_code longest_plain farthest w piece (length out) → code ≡ done → e ≡ early (w.fed + length piece) → e ≡ false
+    → out₁ ≡ written (pick (eqb w.fed 1) (w.first ∷ []) []) out
+    → (ran ≡ run_answer w.state piece (take (length out₁ - w.fed) (drop w.fed out₁)))
+    × (ys ≡ run_out w.state piece (take (length out₁ - w.fed) (drop w.fed out₁)))
+    → ran ≡ Ok left → r ≡ on_with done (moved_on w (w.fed + length piece) left 0)
+    → (r ≡ (feed_result longest_plain farthest w piece out).step)
+    × (put_mid w.fed (length out₁ - w.fed) out₁ ys ≡ (feed_result longest_plain farthest w piece out).buffer)
+unfolding feed_result
+feed_written {r = r} {out₁ = out₁} w piece out c z e f eo (en, ey) el er =
+    let (low, high, roomy, fits) = feed_bounds w piece (length out) c z in
+    let long = first_long w.fed w.first out eo (omega (arith, low, roomy)) in
+    let left-is = drawn_is (feed_runs w piece out c z eo en) el in
     let walk_is : on_with done (moved_on w (w.fed + length piece) (after w.state piece) 0) ≡ on_with done (walk_after w piece) = rw (← e, f) in
-    let step_is : r ≡ on_with done (walk_after w piece) = er ∙ rw (en, ran-is.0) walk_is in
+    let step_is : r ≡ on_with done (walk_after w piece) = er ∙ rw left-is walk_is in
     let mid = run_behind w.state w.fed piece out₁ ey (omega (arith, long, roomy, fits)) (omega (arith, high, fits)) in
     let buffer-is : written_at (pick (early w.fed) 0 w.fed) (opened w piece) out ≡ buffer_after w piece out = rw (← e, f) in
     let put : written_at w.fed (run w.state piece) out₁ ≡ written_at (pick (early w.fed) 0 w.fed) (opened w piece) out =
     unfold opened in rw eo (put_on w.fed w.first (run w.state piece) out) in
     rw (← c, z) (step_is, mid ∙ put ∙ buffer-is)
-
--- an end: of a walk that does not go on, of one whose record would be ill formed, too early, and good
-pub end_dead : {r : Step} (w : Walk) → goes_on longest_plain farthest w ≡ false → r ≡ on_with not_record w → r ≡ end_step longest_plain farthest w
-unfolding end_step end_code
-end_dead w g er = rw g er
-
-pub end_ill : {r : Step} {next : Link} (w : Walk) → goes_on longest_plain farthest w ≡ true → next ≡ link_left w → well_formed next ≡ false
-    → r ≡ on_with not_record w → r ≡ end_step longest_plain farthest w
-unfolding end_step end_code
-end_ill w g en ill er = rw (g, ← en, ill) er
-
-pub end_early : {r : Step} {next : Link} (w : Walk) → goes_on longest_plain farthest w ≡ true → next ≡ link_left w → well_formed next ≡ true → w.fed < w.total
-    → r ≡ on_with shape (over w.link) → r ≡ end_step longest_plain farthest w
-unfolding end_step end_code
-end_early w g en well few er = rw (g, ← en, well, lt-ltb w.fed w.total few) er
-
-pub end_good : {j : Judged} {next : Link} {ended : Walk} (w : Walk) → goes_on longest_plain farthest w ≡ true → next ≡ link_left w → well_formed next ≡ true
-    → w.total ≤ w.fed → j ≡ judged longest_plain farthest w.link w.header w.total → ended ≡ over next
-    → record { answer = done; changes = j.changes; walk = ended } ≡ end_step longest_plain farthest w
-unfolding end_step end_code judged
-end_good w g en well all ej ew =
-    let (whole, low, high, fed) = goes_within longest_plain farthest w g in
-    rw (g, ← en, well, le-ltb w.fed w.total all, ew, en, ej, whole)
 
 -- the session key and the box that a packet is opened with, and those of a record that waits
 pub key_made : {places : List ℕ} (l : Link) (h n : ℕ) → n ≡ changes_for l h → places ≡ placed_changes l.strength l.start l.session n → places ≡ placed (key_for l h)
@@ -389,22 +358,3 @@ module _ {t : Bool} {h : ℕ} {j : Judged} (l : Link) (four : List ℕ) (total l
   begin_done z roomy er =
       let code : begin_code longest_plain farthest l four total lent ≡ done = passed z ∙ rw (le-ltb lent total roomy) in
       er ∙ rw (code, eh)
-
--- a packet is opened with a box keyed afresh: after a key change, or by bit A
-pub afresh_changed : (h n : ℕ) → (n ≡ 0 → ⊥) → true ≡ (not (eqb n 0) || not (lacks bit_a h))
-afresh_changed h n some = rw (ne_eqb n 0 some)
-
-pub afresh_flagged : (h n : ℕ) → n ≡ 0 → not (eqb (h / bit_a % 2) 0) ≡ (not (eqb n 0) || not (lacks bit_a h))
-afresh_flagged h n none = rw none
-
--- the number for a wrong front
-pub front_code_lem : {r : Bool} (well t : Bool) → r ≡ well → r ≡ t → pick t shape not_record ≡ pick well shape not_record
-front_code_lem well t e h = rw (← e, h)
-
--- a front of another length, and one of another number
-pub front_size : (four : List ℕ) → (length four ≡ 4 → ⊥) → true ≡ (wrong front four || not (eqb (pair_at 0 four) 0x00FD))
-front_size four n = rw (ne_eqb (length four) 4 n)
-
-pub front_number : {p : ℕ} (four : List ℕ) → length four ≡ 4 → p ≡ pair_at 0 four
-    → not (eqb p 0x00FD) ≡ (wrong front four || not (eqb (pair_at 0 four) 0x00FD))
-front_number four n e = rw (n, e)

@@ -1,11 +1,14 @@
 -- What holds of records as octets.
-use Rattle.std.specs.Prelude.{◌≡◌, Bool, true, not, List, [], ◌∷◌, ◌++◌, ℕ, zero, suc, ◌+◌, ◌*◌, ◌/◌, ◌%◌, ◌^◌, ◌<◌, ◌≤◌, eqb, length, take, drop, replicate}
+use Rattle.std.specs.Prelude.{◌≡◌, Bool, true, not, List, [], ◌∷◌, ◌++◌, ℕ, zero, suc, ◌+◌, ◌*◌, ◌/◌, ◌%◌, ◌^◌, ◌<◌, ◌≤◌, eqb, length, take, drop, replicate, ◌&&◌, Result as Answered, Ok, Err, is_ok}
 use Rattle.std.proofs.Math.Path.{refl, ap}
-use Rattle.std.proofs.Common.{sym, ◌∙◌, append_assoc, append-nil, arith, length-append, length-drop, take-append-drop, take_at, drop_at, drop-drop, take-add, drop-cons, get_or-drop, eq-eqb, eqb-true, ltb-false}
+use Rattle.std.proofs.Common.{true≢false, sym, ◌∙◌, append_assoc, append-nil, arith, length-append, length-drop, take-append-drop, take_at, drop_at, drop-drop, take-add, drop-cons, get_or-drop, eq-eqb, eqb-true, ltb-false}
 use Rattle.std.proofs.Math.Bool.{false}
 use Rattle.std.proofs.Math.ListN.{get_or}
 use Rattle.std.proofs.Math.Seq.{take_all}
-use Rattle.answer.specs.Answer.{done, size, not_record, waiting, pick, first_of, on_done}
+use Rattle.answer.specs.declared.Refusal.{Refusal}
+use Rattle.answer.specs.declared.Refusal.TheVariants.{Record}
+use Rattle.answer.specs.Answer.{size, not_record, waiting, pick, first_of, on_done, result_of, number_of, value_of}
+use Rattle.answer.specs.Laws.{both, clear, right_length, number_first, value_result, ok_only}
 use Rattle.octets.specs.Octets.{Octets, big_endian}
 use Rattle.rc4.specs.declared.Rc4.{Rc4}
 use Rattle.rc4.specs.Cipher.{box, unkeyed, key_schedule, after}
@@ -19,8 +22,7 @@ use Rattle.mppe_keys.proofs.Laws.{key_most, placed_length, initial_key_length, c
 use Rattle.mppe.specs.declared.Link.{Link}
 use Rattle.mppe.specs.Link.{zeros, box_fits, well_formed, Result, start_key_in, session_key_in, link_of, with_box, kept_box, new_count, no_link, new_link, bit_a, lacks, refusal, seal_code, seal_result, next_changes, next_key, keys_afresh, next_box, header_in, data_in, changes_for, key_for, box_for, state_for, waited, open_code, open_result, reset_code, reset_outcome}
 use Rattle.mppe.proofs.Laws.{session_length, well_box, fits_unmarked, fits_unkeyed}
-use Rattle.mppe_record.specs.declared.RecordRead.{RecordRead}
-use Rattle.mppe_record.specs.Record.{strength_of, no_strength, yes_number, no_choice, front_octets, rest_octets, record_length, record_octets, front_in, record_in, no_record, record_read, front_length, stateless_in, stateless_read}
+use Rattle.mppe_record.specs.Record.{strength_of, no_strength, yes_number, no_choice, front_octets, rest_octets, record_length, record_octets, front_in, record_in, record_rows, no_record, record_read, front_length, stateless_in, stateless_rows, stateless_read}
 
 -- a strength's bits are its number
 pub bits_back : (s : Strength) → strength_of (bits_of s) ≡ s
@@ -135,7 +137,7 @@ record_in_back l h =
     rw (mode_is l h, yes_back (by_mode l.mode false true), mode_back l.mode, mark_is l h, yes_back l.waiting, cells_are l h, i-is, j_is)
     (ap (λ t. front_in t l.mode l.state l.waiting) all ∙ front_in_back l h (rest_octets l) l.mode l.state l.waiting)
 
-pub reads_back : (l : Link) → Sized l → record_read (record_octets l) ≡ record { answer = done; link = l }
+pub reads_back : (l : Link) → Sized l → record_read (record_octets l) ≡ Ok l
 unfolding record_read
 reads_back l h =
     rw
@@ -146,28 +148,62 @@ reads_back l h =
 abbrev first_is : List ℕ → Bool
 first_is octets = let bits : ℕ = get_or octets 0 0 in eqb bits (bits_of (strength_of bits))
 
-read_known : (octets : List ℕ) → (record_read octets).answer ≡ done
+known : (t : Bool) → not t ≡ false → t ≡ true
+known true e = refl
+known false e = absurd (true≢false e)
+
+read_known : {l : Link} (octets : List ℕ) → record_read octets ≡ Ok l
     → (length octets ≡ record_length) × (first_is octets ≡ true) × (no_choice (get_or octets 35 0) ≡ false) × (no_choice (get_or octets 36 0) ≡ false)
-    × ((record_read octets).link ≡ record_in octets)
+    × (l ≡ record_in octets)
 unfolding record_read
-read_known octets ok = go (eqb (length octets) record_length) (first_is octets) (no_choice (get_or octets 35 0)) (no_choice (get_or octets 36 0)) refl refl refl refl ok
-  where
-    read : Bool → Bool → Bool → Bool → RecordRead
-    read a b m k =
-        on_done (first_of ((not_record, not a) ∷ (not_record, not b) ∷ (not_record, m) ∷ (not_record, k) ∷ [])) (record { answer = done; link = record_in octets }) no_record
+read_known octets ok =
+    let (none, same) = ok_only (first_of (record_rows octets)) (record_in octets) ok in
+    let facts = clear not_record (record_rows octets) refl none in
+    (right_length record_length octets facts.0, known (first_is octets) facts.1.0, facts.1.1.0, facts.1.1.1.0, sym same)
 
-    go : (a b m k : Bool) → eqb (length octets) record_length ≡ a → first_is octets ≡ b → no_choice (get_or octets 35 0) ≡ m → no_choice (get_or octets 36 0) ≡ k
-        → (read a b m k).answer ≡ done
-        → (length octets ≡ record_length) × (first_is octets ≡ true) × (no_choice (get_or octets 35 0) ≡ false) × (no_choice (get_or octets 36 0) ≡ false)
-        × ((read a b m k).link ≡ record_in octets)
-    go true true false false h e em ek ok = (eqb-true (length octets) record_length h, e, em, ek, refl)
-    go true true false true h e em ek ok = absurd (omega arith)
-    go true true true k h e em ek ok = absurd (omega arith)
-    go true false m k h e em ek ok = absurd (omega arith)
-    go false b m k h e em ek ok = absurd (omega arith)
-
-pub read_length : (octets : List ℕ) → (record_read octets).answer ≡ done → length octets ≡ record_length
+pub read_length : {l : Link} (octets : List ℕ) → record_read octets ≡ Ok l → length octets ≡ record_length
 read_length octets ok = (read_known octets ok).0
+
+-- what a read answers, its number and its record: those of the first row that applies, and no record where one does
+pub read_number : (octets : List ℕ) → number_of (record_read octets) ≡ first_of (record_rows octets)
+unfolding record_read
+read_number octets = number_first (record_rows octets) (record_in octets) refl
+
+pub read_value : (octets : List ℕ) → value_of (no_link Bits40 Stateless) (record_read octets) ≡ on_done (first_of (record_rows octets)) (record_in octets) no_record
+unfolding record_read
+read_value octets = value_result (first_of (record_rows octets)) (record_in octets) no_record
+
+pub stateless_number : (octets : List ℕ) → number_of (stateless_read octets) ≡ first_of (stateless_rows octets)
+unfolding stateless_read
+stateless_number octets = number_first (stateless_rows octets) (stateless_in octets) refl
+
+pub stateless_value : (octets : List ℕ) → value_of (no_link Bits40 Stateless) (stateless_read octets) ≡ on_done (first_of (stateless_rows octets)) (stateless_in octets) no_record
+unfolding stateless_read
+stateless_value octets = value_result (first_of (stateless_rows octets)) (stateless_in octets) no_record
+
+-- rows that all have this one number give that refusal or none
+abbrev pub only_records : List (ℕ × Bool) → Bool
+only_records [] = true
+only_records (row ∷ rows) = eqb row.0 not_record && only_records rows
+
+pub first_record : {A : Type 0} {e : Refusal} (rows : List (ℕ × Bool)) (x : A) → only_records rows ≡ true → result_of (first_of rows) x ≡ Err e → e ≡ Record
+first_record [] x all h = absurd (true≢false (ap is_ok h))
+first_record {A} ((n, true) ∷ rows) x all h =
+    let code = eqb-true n not_record (both (eqb n not_record) (only_records rows) all).0 in
+    sym (ap (λ r. refusal_in r) (rw code at h))
+  where
+    refusal_in : Answered A Refusal → Refusal
+    refusal_in (Ok x) = Record
+    refusal_in (Err e) = e
+first_record ((n, false) ∷ rows) x all h = first_record rows x (both (eqb n not_record) (only_records rows) all).1 h
+
+pub read_refused : {e : Refusal} (octets : List ℕ) → record_read octets ≡ Err e → e ≡ Record
+unfolding record_read
+read_refused octets h = first_record (record_rows octets) (record_in octets) refl h
+
+pub stateless_refused : {e : Refusal} (octets : List ℕ) → stateless_read octets ≡ Err e → e ≡ Record
+unfolding stateless_read
+stateless_refused octets h = first_record (stateless_rows octets) (stateless_in octets) refl h
 
 -- octets that hold a record, read and written back, are the same: the first 35 ..
 front_back : (octets : List ℕ) → Octets octets → front_length ≤ length octets → first_is octets ≡ true → (mode : Mode) (state : Rc4) (mark : Bool)
@@ -203,7 +239,7 @@ rest_back octets h em ek =
     ∙ ap (λ t. get_or octets 36 0 ∷ t) (drop-cons octets 37 0 (omega arith) ∙ ap (λ t. get_or octets 37 0 ∷ t) (drop-cons octets 38 0 (omega arith)))) in
     rw (mode_told (eqb (get_or octets 35 0) 1), choice_is (get_or octets 35 0) em, choice_is (get_or octets 36 0) ek, cells) (sym four)
 
-pub writes_back : (octets : List ℕ) → Octets octets → (record_read octets).answer ≡ done → record_octets (record_read octets).link ≡ octets
+pub writes_back : {l : Link} (octets : List ℕ) → Octets octets → record_read octets ≡ Ok l → record_octets l ≡ octets
 unfolding record_octets
 writes_back octets all ok =
     let (long, first, mode, mark, link) = read_known octets ok in
@@ -219,27 +255,21 @@ stateless_in_back l h mode well =
     let mark = fits_unmarked Stateless l.state l.waiting refl fits in
     ap (λ t. front_in t Stateless unkeyed false) (sym (append-nil (front_octets l))) ∙ front_in_back l h [] Stateless unkeyed false ∙ rw (← mode, state, mark)
 
-pub stateless_back : (l : Link) → Sized l → l.mode ≡ Stateless → well_formed l ≡ true → stateless_read (front_octets l) ≡ record { answer = done; link = l }
+pub stateless_back : (l : Link) → Sized l → l.mode ≡ Stateless → well_formed l ≡ true → stateless_read (front_octets l) ≡ Ok l
 unfolding stateless_read front_octets
 stateless_back l h mode well =
     rw (eq-eqb (length (front_octets l)) front_length (front_octets_length l h), bits_known l.strength, stateless_in_back l h mode well)
 
-pub stateless_writes : (octets : List ℕ) → Octets octets → (stateless_read octets).answer ≡ done → front_octets (stateless_read octets).link ≡ octets
+pub stateless_writes : {l : Link} (octets : List ℕ) → Octets octets → stateless_read octets ≡ Ok l → front_octets l ≡ octets
 unfolding stateless_read stateless_in
-stateless_writes octets all ok = go (eqb (length octets) front_length) (first_is octets) refl refl ok
-  where
-    read : Bool → Bool → RecordRead
-    read a b = on_done (first_of ((not_record, not a) ∷ (not_record, not b) ∷ [])) (record { answer = done; link = stateless_in octets }) no_record
-
-    go : (a b : Bool) → eqb (length octets) front_length ≡ a → first_is octets ≡ b → (read a b).answer ≡ done → front_octets (read a b).link ≡ octets
-    go true true h e ok =
-        let long = eqb-true (length octets) front_length h in
-        front_back octets all (omega arith) e Stateless unkeyed false ∙ take_all 35 octets (omega arith)
-    go true false h e ok = absurd (omega arith)
-    go false b h e ok = absurd (omega arith)
+stateless_writes octets all ok =
+    let (none, same) = ok_only (first_of (stateless_rows octets)) (stateless_in octets) ok in
+    let facts = clear not_record (stateless_rows octets) refl none in
+    let long = right_length front_length octets facts.0 in
+    ap front_octets (sym same) ∙ front_back octets all (omega arith) (known (first_is octets) facts.1.0) Stateless unkeyed false ∙ take_all 35 octets (omega arith)
 
 -- what is read of octets that hold no record is not well formed, so that seal and open refuse it
-pub no_record_ill : well_formed no_record.link ≡ false
+pub no_record_ill : well_formed no_record ≡ false
 unfolding well_formed zeros begins head_of no_link
 no_record_ill = refl
 

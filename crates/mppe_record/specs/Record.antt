@@ -1,6 +1,7 @@
 -- A link record as octets.
-use Rattle.std.specs.Prelude.{Bool, true, false, not, List, [], ◌∷◌, ◌++◌, ℕ, eqb, ltb, take, drop, get_or}
-use Rattle.answer.specs.Answer.{done, not_record, pick, first_of, on_done, wrong}
+use Rattle.std.specs.Prelude.{Bool, true, false, not, List, [], ◌∷◌, ◌++◌, ℕ, eqb, ltb, take, drop, get_or, Result}
+use Rattle.answer.specs.declared.Refusal.{Refusal}
+use Rattle.answer.specs.Answer.{not_record, pick, first_of, result_of, wrong}
 use Rattle.octets.specs.Octets.{big_endian, pair_at}
 use Rattle.rc4.specs.declared.Rc4.{Rc4}
 use Rattle.rc4.specs.Cipher.{box, unkeyed}
@@ -11,7 +12,6 @@ use Rattle.mppe_keys.specs.declared.Mode.TheVariants.{Stateless}
 use Rattle.mppe_keys.specs.Keys.{bits_of, by_mode, mode_if}
 use Rattle.mppe.specs.declared.Link.{Link}
 use Rattle.mppe.specs.Link.{no_link}
-use Rattle.mppe_record.specs.declared.RecordRead.{RecordRead}
 
 -- the strength of a number of bits; 40 bits for a number that is no strength
 abbrev pub strength_of : ℕ → Strength
@@ -73,12 +73,12 @@ record_rows octets =
     ∷ (not_record, no_choice (get_or octets 36 0))
     ∷ []
 
--- what is read of them: "40 bits, stateless, all else 0" (02, M-111)
-abbrev pub no_record : RecordRead
-no_record = record { answer = not_record; link = no_link Bits40 Stateless }
+-- what a refused answer has for a record, `value_of no_record (record_read octets)`: "40 bits, stateless, all else 0" (02, M-111)
+abbrev pub no_record : Link
+no_record = no_link Bits40 Stateless
 
-unfoldable pub record_read : List ℕ → RecordRead
-record_read octets = on_done (first_of (record_rows octets)) (record { answer = done; link = record_in octets }) no_record
+unfoldable pub record_read : List ℕ → Result Link Refusal
+record_read octets = result_of (first_of (record_rows octets)) (record_in octets)
 
 -- the first 35 octets alone hold a stateless record, whose box and mark are no others: "in stateless mode 0 to 255 in order, indices 0, mark
 -- off" (02, M-103); 7 where there are not 35 of them, or the first is no strength
@@ -91,5 +91,5 @@ stateless_in octets = front_in octets Stateless unkeyed false
 abbrev pub stateless_rows : List ℕ → List (ℕ × Bool)
 stateless_rows octets = (not_record, wrong front_length octets) ∷ (not_record, no_strength (get_or octets 0 0)) ∷ []
 
-unfoldable pub stateless_read : List ℕ → RecordRead
-stateless_read octets = on_done (first_of (stateless_rows octets)) (record { answer = done; link = stateless_in octets }) no_record
+unfoldable pub stateless_read : List ℕ → Result Link Refusal
+stateless_read octets = result_of (first_of (stateless_rows octets)) (stateless_in octets)

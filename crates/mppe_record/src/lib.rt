@@ -7,6 +7,7 @@ ghost use Rattle.mppe_keys.specs.Keys.{bits_of};
 ghost use Rattle.mppe_record.specs.Record.{strength_of, no_strength, yes_number, front_octets, rest_octets, record_length, record_octets, front_in, record_in, no_record, record_read, front_length, stateless_read};
 ghost use Rattle.mppe_record.specs.Inner.{state_in};
 
+use answer::Refusal;
 use mppe::Link;
 use mppe_keys::{Mode, Strength, is_stateful, mode_if};
 use octets::pair;
@@ -29,63 +30,41 @@ const MARK_AT: usize = 36;
 // Where RC4's state begins, with both indices.
 const STATE_AT: usize = 37;
 
-// The number answered, and the record read; 40 bits, stateless and all else 0 where it is refused.
-#[derive(Clone, Copy)]
-pub struct RecordRead {
-    pub answer: u8,
-    pub link: Link,
-}
-
 // The octets of a link record.
+#[tactic(auto, unfolding(crate::specs::Record::record_octets))]
 pub fn record_octets(link: Link) -> [u8; 295]
     ensures { result ≡ record_octets link }
 {
-    let front = front_octets(link);
-    let rest = rest_octets(link);
-    let mut octets = [0u8; 295];
-    octets::copy(&front, &mut octets);
-    octets::copy_at(&rest, FRONT_LENGTH, &mut octets);
+    let mut octets = [0; RECORD_LENGTH];
+    octets[FRONT_LENGTH..].copy_from_slice(&rest_octets(link));
+    octets[..FRONT_LENGTH].copy_from_slice(&front_octets(link));
     octets
 }
 
 // Its first 35 octets.
+#[tactic(auto, using(crate::proofs::Laws::two_octets), unfolding(crate::specs::Record::front_octets))]
 pub fn front_octets(link: Link) -> [u8; 35]
     ensures { (result ≡ front_octets link) × (length result ≡ 35) }
 {
-    let strength = link.strength;
-    let start = link.start;
-    let session = link.session;
-    let count = link.count;
-    let mut octets = [0u8; 35];
-    octets::copy_at(&[bits_of(strength)], 0, &mut octets);
-    octets::copy_at(&start, START_AT, &mut octets);
-    octets::copy_at(&session, SESSION_AT, &mut octets);
-    octets::copy_at(
-        &[(count / 256) as u8, (count % 256) as u8],
-        COUNT_AT,
-        &mut octets,
-    );
+    let mut octets = [0; FRONT_LENGTH];
+    octets[COUNT_AT..].copy_from_slice(&link.count.to_be_bytes());
+    octets[SESSION_AT..COUNT_AT].copy_from_slice(&link.session);
+    octets[START_AT..SESSION_AT].copy_from_slice(&link.start);
+    octets[0] = bits_of(link.strength);
     octets
 }
 
 // The octets behind these.
+#[tactic(auto, unfolding(crate::specs::Record::rest_octets))]
 fn rest_octets(link: Link) -> [u8; 260]
     ensures { (result ≡ rest_octets link) × (length result ≡ 260) }
 {
-    let mode = link.mode;
-    let state = link.state;
-    let cells = state.cells;
-    let mut octets = [0u8; 260];
-    octets::copy(
-        &[
-            yes_number(is_stateful(mode)),
-            yes_number(link.waiting),
-            state.i,
-            state.j,
-        ],
-        &mut octets,
-    );
-    octets::copy_at(&cells, 4, &mut octets);
+    let mut octets = [0; RECORD_LENGTH - FRONT_LENGTH];
+    octets[0] = yes_number(is_stateful(link.mode));
+    octets[1] = yes_number(link.waiting);
+    octets[2] = link.state.i;
+    octets[3] = link.state.j;
+    octets[4..].copy_from_slice(&link.state.cells);
     octets
 }
 
@@ -93,50 +72,33 @@ fn rest_octets(link: Link) -> [u8; 260]
 pub fn yes_number(holds: bool) -> u8
     ensures { result ≡ yes_number holds }
 {
-    if holds {
-        return 1;
-    }
-    0
+    u8::from(holds)
 }
 
 // Reads a link record; refused as `record` where the octets are not 295, the first is no strength, or the mode or the mark neither 0 nor 1.
-#[tactic(auto, using(crate::proofs::InnerLaws::not_mark))]
-pub fn read_record(octets: &[u8]) -> RecordRead
+#[tactic(auto, unfolding(crate::specs::Record::record_read))]
+pub fn read_record(octets: &[u8]) -> Result<Link, Refusal>
     ensures { result ≡ record_read octets.now }
 {
-    if octets.len() != RECORD_LENGTH {
-        return no_record();
+    if octets.len() != RECORD_LENGTH
+        || no_strength(octets[0])
+        || 1 < octets[MODE_AT]
+        || 1 < octets[MARK_AT]
+    {
+        return Err(Refusal::Record);
     }
-    if no_strength(octets[0]) {
-        return no_record();
-    }
-    if 1 < octets[MODE_AT] {
-        return no_record();
-    }
-    if 1 < octets[MARK_AT] {
-        return no_record();
-    }
-    RecordRead {
-        answer: answer::DONE,
-        link: record_in(octets),
-    }
+    Ok(record_in(octets))
 }
 
 // Reads a stateless record of its first 35 octets; refused as `record` where they are not 35, or the first is no strength.
-#[tactic(auto, using(crate::proofs::InnerLaws::not_front))]
-pub fn read_stateless(octets: &[u8]) -> RecordRead
+#[tactic(auto, unfolding(crate::specs::Record::stateless_read, crate::specs::Record::stateless_in))]
+pub fn read_stateless(octets: &[u8]) -> Result<Link, Refusal>
     ensures { result ≡ stateless_read octets.now }
 {
-    if octets.len() != FRONT_LENGTH {
-        return no_record();
+    if octets.len() != FRONT_LENGTH || no_strength(octets[0]) {
+        return Err(Refusal::Record);
     }
-    if no_strength(octets[0]) {
-        return no_record();
-    }
-    RecordRead {
-        answer: answer::DONE,
-        link: front_in(octets, Mode::Stateless, Rc4::unkeyed(), false),
-    }
+    Ok(front_in(octets, Mode::Stateless, Rc4::unkeyed(), false))
 }
 
 // Whether a number of bits is no strength.
@@ -146,17 +108,15 @@ pub fn no_strength(bits: u8) -> bool
     bits != bits_of(strength_of(bits))
 }
 
-// The strength of a number of bits; 40 bits for one that is no strength.
+// The strength of a number of bits; 40 bits for one that is no strength. No From and TryFrom: the type is mppe_keys' own.
 pub fn strength_of(bits: u8) -> Strength
     ensures { result ≡ strength_of bits }
 {
-    if bits == 128 {
-        return Strength::Bits128;
+    match bits {
+        128 => Strength::Bits128,
+        56 => Strength::Bits56,
+        _ => Strength::Bits40,
     }
-    if bits == 56 {
-        return Strength::Bits56;
-    }
-    Strength::Bits40
 }
 
 // The bits of a strength.
@@ -171,6 +131,7 @@ pub fn bits_of(strength: Strength) -> u8
 }
 
 // The link record in 295 octets.
+#[tactic(auto, unfolding(crate::specs::Record::record_in, crate::specs::Inner::state_in))]
 fn record_in(octets: &[u8]) -> Link
     requires { length octets.now ≡ record_length }
     ensures { result ≡ record_in octets.now }
@@ -198,12 +159,13 @@ fn front_in(octets: &[u8], mode: Mode, state: Rc4, waiting: bool) -> Link
 }
 
 // RC4's state in 258 octets.
+#[tactic(auto, unfolding(crate::specs::Inner::state_in))]
 fn state_in(octets: &[u8]) -> Rc4
     requires { length octets.now ≡ 258 }
     ensures { result ≡ state_in octets.now }
 {
-    let mut cells = [0u8; 256];
-    octets::copy(&octets[2..], &mut cells);
+    let mut cells = [0; 256];
+    cells.copy_from_slice(&octets[2..]);
     Rc4 {
         cells,
         i: octets[0],
@@ -216,17 +178,14 @@ fn places(key: &[u8]) -> [u8; 16]
     requires { length key.now ≡ 16 }
     ensures { result ≡ key.now }
 {
-    let mut places = [0u8; 16];
-    octets::copy(key, &mut places);
+    let mut places = [0; 16];
+    places.copy_from_slice(key);
     places
 }
 
-// What is read of octets that hold no record.
-fn no_record() -> RecordRead
+// The record of octets that hold none: 40 bits, stateless, all else 0.
+pub fn no_record() -> Link
     ensures { result ≡ no_record }
 {
-    RecordRead {
-        answer: answer::RECORD,
-        link: mppe::no_link(Strength::Bits40, Mode::Stateless),
-    }
+    mppe::no_link(Strength::Bits40, Mode::Stateless)
 }

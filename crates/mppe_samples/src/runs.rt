@@ -1,6 +1,6 @@
 // Runs of a stateful link: packets sealed, lost, repeated, late and damaged, and Reset-Requests.
 use crate::shown::{show, show_opened, show_reset};
-use crate::{counted, last_packet, open_within, seal_message};
+use crate::{MESSAGE, counted, last_packet};
 use mppe::Link;
 use std::io;
 use std::io::Write;
@@ -32,122 +32,85 @@ fn run<W: Write>(writer: &mut W, link: Link, script: &[u8]) -> io::Result<()> {
     let mut ends = Ends {
         sender: link,
         receiver: link,
-        wire: [0u8; 18],
-        kept: [0u8; 18],
+        wire: [0; 18],
+        kept: [0; 18],
     };
-    let mut n = 0;
-    while n < script.len() {
-        ends = event(writer, ends, script[n], n)?;
-        n += 1;
+    for (n, code) in script.iter().enumerate() {
+        ends = ends.event(writer, *code, n)?;
     }
     Ok(())
 }
 
-// One event: `s` seals, `r` is a Reset-Request that the sender takes, `k` keeps the packet sealed last, `q` are packets unseen up
-// to a count that ends in 0xFD, `x` 63 lost and `X` 2,047 lost; any other is an arrival.
-fn event<W: Write>(writer: &mut W, ends: Ends, code: u8, n: usize) -> io::Result<Ends> {
-    match code {
-        b's' => seal(writer, ends, n),
-        b'r' => ask(writer, ends, n),
-        b'k' => Ok(keep(ends)),
-        b'q' => Ok(pass_all(ends, (509 - ends.sender.count as usize % 256) % 256)),
-        b'x' => Ok(lose(ends, 63)),
-        b'X' => Ok(lose(ends, 2047)),
-        _ => arrive(writer, ends, code, n),
+impl Ends {
+    // One event: `s` seals, `r` is a Reset-Request that the sender takes, `k` keeps the packet sealed last, `q` are packets unseen up
+    // to a count that ends in 0xFD, `x` 63 lost and `X` 2,047 lost; any other is an arrival.
+    fn event<W: Write>(self, writer: &mut W, code: u8, n: usize) -> io::Result<Ends> {
+        match code {
+            b's' => {
+                let mut wire = [0xEE; 18];
+                let made = self.sender.seal(MESSAGE, &mut wire);
+                show(writer, b"sealed", n, made, &wire)?;
+                Ok(Ends {
+                    sender: made.link,
+                    wire,
+                    ..self
+                })
+            }
+            b'r' => {
+                let sender = show_reset(writer, n, self.sender, b"\x0e\x07\x00\x04")?;
+                Ok(Ends { sender, ..self })
+            }
+            b'k' => {
+                let kept = self.wire;
+                Ok(Ends { kept, ..self })
+            }
+            b'q' => Ok(self.pass((509 - usize::from(self.sender.count) % 256) % 256)),
+            b'x' => Ok(self.lose(63)),
+            b'X' => Ok(self.lose(2047)),
+            _ => {
+                let room = if code == b'n' { 13 } else { 14 };
+                let wire = self.arriving(code);
+                let receiver = show_opened(writer, b"opened", n, self.receiver, &wire, room)?;
+                Ok(Ends { receiver, ..self })
+            }
+        }
     }
-}
 
-// A packet is sealed.
-fn seal<W: Write>(writer: &mut W, ends: Ends, n: usize) -> io::Result<Ends> {
-    let mut wire = [0xEEu8; 18];
-    let sender = ends.sender;
-    let made = seal_message(sender, &mut wire);
-    show(writer, b"sealed", n, made, &wire)?;
-    Ok(sent(ends, made.link, wire))
-}
-
-// The ends after a packet is sealed.
-fn sent(ends: Ends, sender: Link, wire: [u8; 18]) -> Ends {
-    let mut next = ends;
-    next.sender = sender;
-    next.wire = wire;
-    next
-}
-
-// Packets are sealed and lost.
-fn lose(ends: Ends, packets: usize) -> Ends {
-    let sender = ends.sender;
-    let lost = last_packet(sender, packets);
-    let wire = lost.wire;
-    sent(ends, lost.link, wire)
-}
-
-// A Reset-Request reaches the sender.
-fn ask<W: Write>(writer: &mut W, ends: Ends, n: usize) -> io::Result<Ends> {
-    let sender = ends.sender;
-    let wire = ends.wire;
-    Ok(sent(
-        ends,
-        show_reset(writer, n, sender, b"\x0e\x07\x00\x04")?,
-        wire,
-    ))
-}
-
-// The packet sealed last is kept.
-fn keep(ends: Ends) -> Ends {
-    let mut next = ends;
-    let wire = ends.wire;
-    next.kept = wire;
-    next
-}
-
-// Packets are sealed and opened, and nothing printed.
-fn pass_all(ends: Ends, packets: usize) -> Ends {
-    let mut next = ends;
-    for _ in 0..packets {
-        next = pass(next);
+    // Packets are sealed and lost.
+    fn lose(self, packets: usize) -> Ends {
+        let lost = last_packet(self.sender, packets);
+        let wire = lost.wire;
+        Ends {
+            sender: lost.link,
+            wire,
+            ..self
+        }
     }
-    next
-}
 
-// One of them.
-fn pass(ends: Ends) -> Ends {
-    let next = lose(ends, 1);
-    let mut out = [0u8; 14];
-    let receiver = next.receiver;
-    let wire = next.wire;
-    let made = open_within(receiver, &wire, 18, &mut out, 14);
-    received(next, made.link)
-}
-
-// The ends after a packet is opened or refused.
-fn received(ends: Ends, receiver: Link) -> Ends {
-    let mut next = ends;
-    next.receiver = receiver;
-    next
-}
-
-// A packet arrives as it is; `d` without D, `a` with A turned over, `p` with another protocol number, `n` without room; `l` is the one
-// that was kept.
-fn arrive<W: Write>(writer: &mut W, ends: Ends, code: u8, n: usize) -> io::Result<Ends> {
-    let receiver = ends.receiver;
-    let wire = arriving(ends, code);
-    let room = if code == b'n' { 13 } else { 14 };
-    Ok(received(
-        ends,
-        show_opened(writer, b"opened", n, receiver, &wire, room)?,
-    ))
-}
-
-// The packet that arrives.
-fn arriving(ends: Ends, code: u8) -> [u8; 18] {
-    let mut wire = ends.wire;
-    match code {
-        b'd' => wire[2] = wire[2] ^ 0x10,
-        b'a' => wire[2] = wire[2] ^ 0x80,
-        b'p' => wire[4] = wire[4] ^ 0xFF,
-        b'l' => wire = ends.kept,
-        _ => (),
+    // Packets are sealed and opened, and nothing printed.
+    fn pass(self, packets: usize) -> Ends {
+        let mut ends = self;
+        for _ in 0..packets {
+            ends = ends.lose(1);
+            ends.receiver = ends.receiver.open(&ends.wire, &mut [0; 14]).link;
+        }
+        ends
     }
-    wire
+
+    // The packet that arrives, as it is; `d` without D, `a` with A turned over, `p` with another protocol number, `n` without room; `l` is
+    // the one that was kept.
+    fn arriving(self, code: u8) -> [u8; 18] {
+        let mut wire = self.wire;
+        match code {
+            b'd' => wire[2] ^= 0x10,
+            b'a' => wire[2] ^= 0x80,
+            b'p' => wire[4] ^= 0xFF,
+            b'l' => {
+                let kept = self.kept;
+                wire = kept;
+            }
+            _ => (),
+        }
+        wire
+    }
 }

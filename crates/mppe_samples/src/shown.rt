@@ -1,7 +1,5 @@
 // What is printed: of a call its number, its octets or the front of their digest, its key changes and the record after it.
-ghost use Rattle.std.specs.Prelude.{◌<◌};
-
-use crate::open_within;
+use crate::Call;
 use mppe::{Link, Outcome};
 use mppe_keys::{Mode, Strength};
 use std::io;
@@ -9,18 +7,12 @@ use std::io::Write;
 
 // Prints the bits of a strength, and a mode.
 pub fn headed<W: Write>(writer: &mut W, strength: Strength, mode: Mode) -> io::Result<()> {
-    let bits = index(mppe_record::bits_of(strength));
-    match mode {
-        Mode::Stateless => writeln!(writer, "{bits} bits, stateless"),
-        Mode::Stateful => writeln!(writer, "{bits} bits, stateful"),
-    }
-}
-
-// An octet as a number.
-fn index(x: u8) -> usize
-    ensures { result < 256 }
-{
-    x as usize
+    let bits = mppe_record::bits_of(strength);
+    let name = match mode {
+        Mode::Stateless => "stateless",
+        Mode::Stateful => "stateful",
+    };
+    writeln!(writer, "{bits} bits, {name}")
 }
 
 // Prints a record whole.
@@ -37,11 +29,19 @@ pub fn show_whole<W: Write>(
 // A record's octets as far as its cells, and the front of the digest of them all.
 fn record_shown(link: Link) -> [u8; 47] {
     let octets = mppe_record::record_octets(link);
-    let digest = sha_1::sha1(&octets);
-    let mut shown = [0u8; 47];
+    // Not copy_from_slice: tried, the length of a part of the octets was not proved.
+    let mut shown = [0; 47];
     octets::copy(&octets, &mut shown);
-    octets::copy_at(&digest.octets, 39, &mut shown);
+    octets::copy_at(&digest_front(&octets), 39, &mut shown);
     shown
+}
+
+// The first octets of a digest.
+fn digest_front(octets: &[u8]) -> [u8; 8] {
+    let digest = sha_1::sha1(octets).unwrap_or([0; 20]);
+    let mut front = [0; 8];
+    front.copy_from_slice(&digest[..8]);
+    front
 }
 
 // Prints what a call gave, with the front of the buffer's digest.
@@ -52,10 +52,7 @@ pub fn show_digest<W: Write>(
     made: Outcome,
     out: &[u8],
 ) -> io::Result<()> {
-    let digest = sha_1::sha1(out);
-    let mut front = [0u8; 8];
-    octets::copy(&digest.octets, &mut front);
-    show(writer, label, n, made, &front)
+    show(writer, label, n, made, &digest_front(out))
 }
 
 // Prints what a call gave: octets, and the record from its count on.
@@ -67,13 +64,12 @@ pub fn show<W: Write>(
     out: &[u8],
 ) -> io::Result<()> {
     report::numbered(writer, label, n, made.answer, out)?;
-    let shown = record_shown(made.link);
     report::numbered(
         writer,
         b"link",
-        made.changes as usize,
+        usize::from(made.changes),
         made.answer,
-        &shown[33..],
+        &record_shown(made.link)[33..],
     )
 }
 
@@ -86,8 +82,8 @@ pub fn show_opened<W: Write>(
     packet: &[u8],
     room: usize,
 ) -> io::Result<Link> {
-    let mut out = [0xEEu8; 14];
-    let made = open_within(link, packet, packet.len(), &mut out, room);
+    let mut out = [0xEE; 14];
+    let made = Call::Open.within(link, packet, packet.len(), &mut out, room);
     show(writer, label, n, made, &out)?;
     Ok(made.link)
 }

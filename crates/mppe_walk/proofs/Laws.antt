@@ -1,24 +1,23 @@
 -- The ways out of the calls.
 use mathlib.Core.Path.{◌≡◌, refl, sym, ap, ◌∙◌}
-use mathlib.Core.Bool.{true}
+use Rattle.std.specs.Prelude.{Bool, true, false, Ok, Err}
 use mathlib.Core.List.{List, [], ◌∷◌, ◌++◌, append-nil, append_assoc}
-use Prim.Native.Nat.{ℕ, ◌+◌, ◌*◌, ◌-◌, ◌/◌, ◌%◌, ◌<◌, ◌≤◌}
+use Prim.Native.Nat.{ℕ, ◌+◌, ◌*◌, ◌-◌}
 use native.Mathlib.Omega.{arith}
 use lib.Dec.{eqb}
 use lib.ListN.{length, take, drop, get_or, replicate, length-append, length-drop, length-replicate, take-append-drop, drop_of_length-le}
 use lib.Seq.{length-take-le, take_all, take_at}
-use borrow.Author.Tests.{eq-eqb, ne_eqb, lt-ltb, le-ltb}
-use Rattle.answer.specs.Answer.{done}
+use Rattle.answer.specs.declared.Refusal.{Refusal}
+use Rattle.answer.specs.declared.Refusal.TheVariants.{Record}
+use Rattle.answer.specs.Answer.{not_record, first_of, result_of, value_of, wrong}
 use Rattle.answer.specs.Laws.{right, not_right}
 use Rattle.octets.specs.Octets.{big_endian, written, written_at}
 use Rattle.octets.specs.Laws.{append_more, grown}
 use Rattle.mppe.specs.declared.Link.{Link}
-use Rattle.mppe_record.specs.declared.RecordRead.{RecordRead}
-use Rattle.mppe_record.specs.Record.{yes_number, record_length, record_octets}
-use Rattle.mppe_record.proofs.Laws.{two_octets}
+use Rattle.mppe_record.specs.Record.{yes_number, no_choice, record_length, record_octets, no_record}
+use Rattle.mppe_record.proofs.Laws.{read_refused}
 use Rattle.mppe_pieces.specs.declared.Walk.{Walk}
-use Rattle.mppe_walk.specs.declared.WalkRead.{WalkRead}
-use Rattle.mppe_walk.specs.Walk.{key_octets, state_octets, fed_octets, walk_length, rest_octets, walk_octets, rest_put, front_read, walk_in, no_walk, walk_read}
+use Rattle.mppe_walk.specs.Walk.{key_octets, state_octets, fed_octets, walk_length, rest_octets, walk_octets, rest_put, front_read, walk_in, walk_read}
 
 -- a part copied behind another fills what was left
 filled : {t₁ t₂ : List ℕ} (first second : List ℕ) (n : ℕ) → t₁ ≡ first ++ replicate (length second) 0 → length first ≡ n
@@ -29,22 +28,13 @@ filled first second n e₁ h e₂ =
     append_more first second n (length second) e₁ e₂ (sym h) (omega arith) ∙ ap (λ z. (first ++ second) ++ z) none ∙ append-nil (first ++ second)
 
 -- live, header and session key
-pub key_laid : {y : ℕ} {t₁ t₂ : List ℕ} (w : Walk) → w.header < 65536 → length w.session ≡ 16 → y ≡ yes_number w.live
-    → t₁ ≡ written (take 19 (y ∷ w.header / 256 ∷ w.header % 256 ∷ [])) (replicate 19 0)
-    → t₂ ≡ written_at 3 (take (length t₁ - 3) w.session) t₁ → (t₂ ≡ key_octets w) × (length t₂ ≡ 19)
+pub key_laid : {y high low : ℕ} {t₁ t₂ : List ℕ} (w : Walk) → length w.session ≡ 16 → y ≡ yes_number w.live
+    → t₁ ≡ written (take 19 (y ∷ high ∷ low ∷ [])) (replicate 19 0)
+    → t₂ ≡ written_at 3 (take (length t₁ - 3) w.session) t₁ → high ∷ low ∷ [] ≡ big_endian 2 w.header → (t₂ ≡ key_octets w) × (length t₂ ≡ 19)
 unfolding key_octets
-key_laid {y} w hh hs ey e₁ e₂ =
-    let three : List ℕ = y ∷ w.header / 256 ∷ w.header % 256 ∷ [] in
-    let laid = filled three w.session 3 (e₁ ∙ rw hs) refl e₂ in
-    (laid ∙ ap (λ t. y ∷ t ++ w.session) (two_octets w.header hh) ∙ rw ey, ap length laid ∙ omega arith)
-
--- total, octets fed and the first
-pub fed_laid : (w : Walk) → w.total < 65536 → w.fed < 65536
-    → w.total / 256 ∷ w.total % 256 ∷ w.fed / 256 ∷ w.fed % 256 ∷ w.first ∷ [] ≡ fed_octets w
-unfolding fed_octets
-fed_laid w ht hf =
-    ap (λ t. t ++ (w.fed / 256 ∷ w.fed % 256 ∷ w.first ∷ [])) (two_octets w.total ht)
-    ∙ ap (λ t. big_endian 2 w.total ++ t ++ (w.first ∷ [])) (two_octets w.fed hf)
+key_laid {y} {high} {low} w hs ey e₁ e₂ eh =
+    let laid = filled (y ∷ high ∷ low ∷ []) w.session 3 (e₁ ∙ rw hs) refl e₂ in
+    (laid ∙ ap (λ t. y ∷ t ++ w.session) eh ∙ rw ey, ap length laid ∙ omega arith)
 
 -- what stands behind the record, one part behind the other, and nothing where the octets are not 577
 pub rest_laid : {key fed t₁ t₂ t₃ t₄ : List ℕ} (w : Walk) (octets : List ℕ) → length octets ≡ walk_length → length w.state.cells ≡ 256
@@ -101,7 +91,7 @@ copied n part e h =
     e ∙ rw (take_all n part (omega arith), none, append-nil)
 
 -- the walk in 577 octets
-pub walk_read_lem : {link : Link} {session cells : List ℕ} {header total fed : ℕ} (octets : List ℕ) → link ≡ (front_read octets).link
+pub walk_read_lem : {link : Link} {session cells : List ℕ} {header total fed : ℕ} (octets : List ℕ) → front_read octets ≡ Ok link
     → length octets ≡ walk_length → session ≡ written (take 16 (take 16 (drop 298 octets))) (replicate 16 0)
     → cells ≡ written (take 256 (take 256 (drop 316 octets))) (replicate 256 0) → header ≡ get_or octets 296 0 * 256 + get_or octets 297 0
     → total ≡ get_or octets 572 0 * 256 + get_or octets 573 0 → fed ≡ get_or octets 574 0 * 256 + get_or octets 575 0
@@ -121,30 +111,13 @@ unfolding walk_in
 walk_read_lem octets el h ek ec eh et ef =
     let key = copied 16 (take 16 (drop 298 octets)) ek (length-take-le 16 (drop 298 octets) (omega (arith, length-drop 298 octets))) in
     let cells = copied 256 (take 256 (drop 316 octets)) ec (length-take-le 256 (drop 316 octets) (omega (arith, length-drop 316 octets))) in
-    rw (el, key, cells, eh, et, ef)
+    rw (ap (value_of no_record) el, key, cells, eh, et, ef)
 
--- octets that hold no walk, by their number, the record in front, and whether it is live, and octets that hold one
-pub not_long : {r : WalkRead} (octets : List ℕ) → (length octets ≡ walk_length → ⊥) → r ≡ no_walk → r ≡ walk_read octets
+-- octets that begin with no record hold no walk
+pub front_refused : {e : Refusal} (octets : List ℕ) → front_read octets ≡ Err e → Err e ≡ walk_read octets
 unfolding walk_read
-not_long octets h e = e ∙ rw (ne_eqb (length octets) walk_length h)
-
-pub not_front : {r : WalkRead} {read : RecordRead} (octets : List ℕ) → length octets ≡ walk_length → read ≡ front_read octets → (read.answer ≡ done → ⊥)
-    → r ≡ no_walk → r ≡ walk_read octets
-unfolding walk_read
-not_front octets h er hr e =
-    e ∙ rw (eq-eqb (length octets) walk_length h, ne_eqb (front_read octets).answer done (λ z. hr (ap (λ (a : RecordRead). a.answer) er ∙ z)))
-
-front_held : {read : RecordRead} (octets : List ℕ) → read ≡ front_read octets → read.answer ≡ done → eqb (front_read octets).answer done ≡ true
-front_held octets er hr = eq-eqb (front_read octets).answer done (sym (ap (λ (a : RecordRead). a.answer) er) ∙ hr)
-
-pub not_live : {r : WalkRead} {read : RecordRead} (octets : List ℕ) → length octets ≡ walk_length → read ≡ front_read octets → read.answer ≡ done
-    → 1 < get_or octets 295 0 → r ≡ no_walk → r ≡ walk_read octets
-unfolding walk_read
-not_live octets h er hr hl e =
-    e ∙ rw (eq-eqb (length octets) walk_length h, front_held octets er hr, lt-ltb 1 (get_or octets 295 0) hl)
-
-pub held : {w : Walk} {read : RecordRead} (octets : List ℕ) → length octets ≡ walk_length → read ≡ front_read octets → read.answer ≡ done
-    → get_or octets 295 0 ≤ 1 → w ≡ walk_in octets → ◌≡◌ {A = WalkRead} (record { answer = done; walk = w }) (walk_read octets)
-unfolding walk_read
-held octets h er hr hl ew =
-    rw (eq-eqb (length octets) walk_length h, front_held octets er hr, le-ltb 1 (get_or octets 295 0) hl, ew)
+front_refused octets h = rw (read_refused (take record_length octets) h, h) (go (wrong walk_length octets))
+  where
+    go : (t : Bool) → Err Record ≡ result_of (first_of ((not_record, t) ∷ (not_record, true) ∷ (not_record, no_choice (get_or octets 295 0)) ∷ [])) (walk_in octets)
+    go true = refl
+    go false = refl

@@ -1,20 +1,24 @@
 -- What holds of walks as octets.
-use Rattle.std.specs.Prelude.{◌≡◌, Bool, true, false, not, ◌≢◌, List, [], ◌∷◌, ◌++◌, ℕ, zero, suc, ◌+◌, ◌-◌, ◌/◌, ◌%◌, ◌^◌, ◌<◌, eqb, length, replicate}
+use Rattle.std.specs.Prelude.{◌≡◌, Result, false, List, [], ◌∷◌, ◌++◌, ℕ, zero, suc, ◌+◌, ◌-◌, ◌/◌, ◌%◌, ◌^◌, ◌<◌, eqb, length, replicate, Ok, Err, is_err}
 use Rattle.std.proofs.Math.Path.{refl, sym, ap}
-use Rattle.std.proofs.Common.{◌∙◌, true≢false, append_assoc, arith, length-append, take-append-drop, drop_of_length-le, drop_at, drop-drop, take-add, drop-cons, get_or-drop, eq-eqb, eqb-true}
+use Rattle.std.proofs.Common.{◌∙◌, true≢false, append_assoc, arith, length-append, take-append-drop, drop_of_length-le, drop_at, drop-drop, take-add, drop-cons, get_or-drop, eq-eqb}
 use Rattle.std.proofs.Math.ListN.{take, drop, get_or}
 use Rattle.std.proofs.Math.Seq.{take_at}
-use Rattle.answer.specs.Answer.{done, not_record, first_of, on_done}
-use Rattle.answer.specs.Laws.{clear, right, right_length}
+use Rattle.answer.specs.declared.Refusal.{Refusal}
+use Rattle.answer.specs.declared.Refusal.TheVariants.{Record}
+use Rattle.answer.specs.Answer.{not_record, first_of, on_done, number_of, value_of}
+use Rattle.answer.specs.Laws.{clear, right, right_length, number_first, value_result, ok_only}
 use Rattle.octets.specs.Octets.{Octets, big_endian, pair_at}
 use Rattle.rc4.specs.Cipher.{box}
 use Rattle.rc4.proofs.Permutation.{Sized as StateSized}
-use Rattle.mppe_record.specs.Record.{yes_number, no_choice, record_length, record_octets, record_read}
-use Rattle.mppe_record.proofs.Laws.{yes_back, yes_known, pair_back, choice_is, Sized as LinkSized, record_octets_length, reads_back as record-back, writes_back as record-kept}
+use Rattle.mppe_record.specs.Record.{yes_number, no_choice, record_length, record_octets, no_record, record_read}
+use Rattle.mppe_record.proofs.Laws.{yes_back, yes_known, pair_back, choice_is, Sized as LinkSized, record_octets_length, first_record, reads_back as record-back, writes_back as record-kept}
 use Rattle.mppe.specs.declared.Link.{Link}
+use Rattle.mppe.specs.Link.{no_link}
+use Rattle.mppe_keys.specs.declared.Strength.TheVariants.{Bits40}
+use Rattle.mppe_keys.specs.declared.Mode.TheVariants.{Stateless}
 use Rattle.mppe_pieces.specs.declared.Walk.{Walk}
 use Rattle.mppe_pieces.specs.Walk.{over}
-use Rattle.mppe_walk.specs.declared.WalkRead.{WalkRead}
 use Rattle.mppe_walk.specs.Walk.{key_octets, state_octets, fed_octets, walk_length, rest_octets, walk_octets, rest_put, front_read, walk_in, walk_rows, no_walk, walk_read}
 
 -- what the fields of the code's struct hold: a record's own, numbers of 16 bits, 16 places, and RC4's state
@@ -108,7 +112,7 @@ module _ (w : Walk) (h : Sized w) where
   first_is_lem : get_or (walk_octets w) 576 0 ≡ w.first
   first_is_lem = at_572 4 ∙ unfold fed_octets in refl
 
-  front_is : front_read (walk_octets w) ≡ record { answer = done; link = w.link }
+  front_is : front_read (walk_octets w) ≡ Ok w.link
   front_is = ap record_read in_front ∙ record-back w.link h.0
 
   walk_in_back : walk_in (walk_octets w) ≡ w
@@ -116,33 +120,35 @@ module _ (w : Walk) (h : Sized w) where
   walk_in_back = rw (live_is, yes_back w.live, front_is, header_is, session_is, state_is, total_is, fed_is, first_is_lem)
 
   -- a written walk is read back
-  pub reads_back : walk_read (walk_octets w) ≡ record { answer = done; walk = w }
+  pub reads_back : walk_read (walk_octets w) ≡ Ok w
   unfolding walk_read
   reads_back = rw (eq-eqb (length (walk_octets w)) walk_length (walk_octets_length w h), front_is, live_is, yes_known w.live, walk_in_back)
 
 -- octets that are read: there are 577 of them, they begin with a record, the walk is live or not, and what is read is the walk in them
-read_known : (octets : List ℕ) → (walk_read octets).answer ≡ done
-    → (length octets ≡ walk_length) × ((front_read octets).answer ≡ done) × (no_choice (get_or octets 295 0) ≡ false) × ((walk_read octets).walk ≡ walk_in octets)
+read_known : {w : Walk} (octets : List ℕ) → walk_read octets ≡ Ok w
+    → (length octets ≡ walk_length) × (front_read octets ≡ Ok w.link) × (no_choice (get_or octets 295 0) ≡ false) × (w ≡ walk_in octets)
 unfolding walk_read
-read_known octets ok =
-    let none : first_of (walk_rows octets) ≡ done = answered (first_of (walk_rows octets)) ok in
+read_known {w} octets ok =
+    let (none, same) = ok_only (first_of (walk_rows octets)) (walk_in octets) ok in
     let facts = clear not_record (walk_rows octets) refl none in
-    let front : (front_read octets).answer ≡ done = eqb-true (front_read octets).answer done (told (eqb (front_read octets).answer done) facts.1.0) in
-    (right_length walk_length octets facts.0, front, facts.1.1.0, ap (λ code. (read code).walk) none)
+    let link : value_of no_record (front_read octets) ≡ w.link = unfold walk_in in ap (λ (w : Walk). w.link) same in
+    (right_length walk_length octets facts.0, read (front_read octets) facts.1.0 ∙ ap Ok link, facts.1.1.0, sym same)
   where
-    read : ℕ → WalkRead
-    read code = on_done code (record { answer = done; walk = walk_in octets }) no_walk
+    read : (front : Result Link Refusal) → is_err front ≡ false → front ≡ Ok (value_of no_record front)
+    read (Ok l) e = refl
+    read (Err refusal) e = absurd (true≢false e)
 
-    answered : (code : ℕ) → (read code).answer ≡ done → code ≡ done
-    answered zero e = refl
-    answered (suc n) e = absurd (omega arith)
-
-    told : (t : Bool) → not t ≡ false → t ≡ true
-    told true e = refl
-    told false e = absurd (true≢false e)
-
-pub read_length : (octets : List ℕ) → (walk_read octets).answer ≡ done → length octets ≡ walk_length
+pub read_length : {w : Walk} (octets : List ℕ) → walk_read octets ≡ Ok w → length octets ≡ walk_length
 read_length octets ok = (read_known octets ok).0
+
+-- what a read answers, its number and its walk: those of the first row that applies, and a walk that is over where one does
+pub read_number : (octets : List ℕ) → number_of (walk_read octets) ≡ first_of (walk_rows octets)
+unfolding walk_read
+read_number octets = number_first (walk_rows octets) (walk_in octets) refl
+
+pub read_value : (octets : List ℕ) → value_of (over (no_link Bits40 Stateless)) (walk_read octets) ≡ on_done (first_of (walk_rows octets)) (walk_in octets) no_walk
+unfolding walk_read
+read_value octets = value_result (first_of (walk_rows octets)) (walk_in octets) no_walk
 
 -- octets that hold a walk, read and written back, are the same: those behind the record ..
 next : {t : List ℕ} (l : List ℕ) (n : ℕ) → n < length l → drop (suc n) l ≡ t → drop n l ≡ get_or l n 0 ∷ t
@@ -191,34 +197,26 @@ rest_kept octets all h e = joined (key_kept octets all h e) (state_kept octets h
     joined ek es el =
         rw (ek, es, el, ← drop-drop 19 295 octets, ← take-add 19 258 (drop 295 octets), ← drop-drop 277 295 octets) (take-append-drop 277 (drop 295 octets))
 
-pub front_kept : (octets : List ℕ) → Octets octets → (walk_read octets).answer ≡ done → record_octets (walk_read octets).walk.link ≡ take record_length octets
-front_kept octets all ok =
-    let (long, front, live, walk) = read_known octets ok in
-    ap (λ (w : Walk). record_octets w.link) walk ∙ unfold walk_in in record-kept (take record_length octets) (in_front_octets record_length octets all) front
+pub front_kept : {w : Walk} (octets : List ℕ) → Octets octets → walk_read octets ≡ Ok w → record_octets w.link ≡ take record_length octets
+front_kept octets all ok = record-kept (take record_length octets) (in_front_octets record_length octets all) (read_known octets ok).1
 
-pub writes_back : (octets : List ℕ) → Octets octets → (walk_read octets).answer ≡ done → walk_octets (walk_read octets).walk ≡ octets
+pub writes_back : {w : Walk} (octets : List ℕ) → Octets octets → walk_read octets ≡ Ok w → walk_octets w ≡ octets
 unfolding walk_octets
-writes_back octets all ok =
+writes_back {w} octets all ok =
     let (long, front, live, walk) = read_known octets ok in
-    let rest : rest_octets (walk_read octets).walk ≡ drop 295 octets = ap rest_octets walk ∙ rest_kept octets all long live in
+    let rest : rest_octets w ≡ drop 295 octets = ap rest_octets walk ∙ rest_kept octets all long live in
     rw (front_kept octets all ok, rest) (take-append-drop 295 octets)
 
 -- another walk with the same record is written by what stands behind the record
-pub rest_written : (octets : List ℕ) (w : Walk) → Octets octets → (walk_read octets).answer ≡ done → w.link ≡ (walk_read octets).walk.link
-    → rest_put w octets ≡ walk_octets w
+pub rest_written : {held : Walk} (octets : List ℕ) (w : Walk) → Octets octets → walk_read octets ≡ Ok held → w.link ≡ held.link → rest_put w octets ≡ walk_octets w
 unfolding rest_put walk_octets
 rest_written octets w all ok same =
     rw (right walk_length octets (read_length octets ok)) (ap (λ f. f ++ rest_octets w) (sym (front_kept octets all ok) ∙ ap record_octets (sym same)))
 
 -- octets that hold no walk are refused with 7
-pub read_refused : (octets : List ℕ) → (walk_read octets).answer ≢ done → (walk_read octets).answer ≡ not_record
+pub read_refused : {e : Refusal} (octets : List ℕ) → walk_read octets ≡ Err e → e ≡ Record
 unfolding walk_read
-read_refused octets = go (first_of (walk_rows octets))
-  where
-    go : (code : ℕ) → (on_done code (record { answer = done; walk = walk_in octets }) no_walk).answer ≢ done
-        → (on_done code (record { answer = done; walk = walk_in octets }) no_walk).answer ≡ not_record
-    go zero h = absurd (h refl)
-    go (suc n) h = refl
+read_refused octets h = first_record (walk_rows octets) (walk_in octets) refl h
 
 -- a walk that is over is its record and zeros behind it
 pub over_octets : (l : Link) → walk_octets (over l) ≡ record_octets l ++ replicate (walk_length - record_length) 0

@@ -1,14 +1,14 @@
 -- A walk (02, M-104) as octets, so that it can be lent from C: its link record in front.
-use Rattle.std.specs.Prelude.{Bool, not, List, [], ◌∷◌, ◌++◌, ℕ, eqb, take, drop, get_or}
-use Rattle.answer.specs.Answer.{done, not_record, pick, first_of, on_done, wrong}
+use Rattle.std.specs.Prelude.{Bool, List, [], ◌∷◌, ◌++◌, ℕ, eqb, take, drop, get_or, Result, is_err}
+use Rattle.answer.specs.declared.Refusal.{Refusal}
+use Rattle.answer.specs.Answer.{not_record, pick, first_of, result_of, value_of, wrong}
 use Rattle.octets.specs.Octets.{big_endian, pair_at}
 use Rattle.rc4.specs.declared.Rc4.{Rc4}
 use Rattle.rc4.specs.Cipher.{box}
-use Rattle.mppe_record.specs.declared.RecordRead.{RecordRead}
+use Rattle.mppe.specs.declared.Link.{Link}
 use Rattle.mppe_record.specs.Record.{yes_number, no_choice, record_length, record_octets, no_record, record_read}
 use Rattle.mppe_pieces.specs.declared.Walk.{Walk}
 use Rattle.mppe_pieces.specs.Walk.{over}
-use Rattle.mppe_walk.specs.declared.WalkRead.{WalkRead}
 
 -- behind the record: whether the walk is live, the packet's header, and its session key in 16 places ..
 unfoldable pub key_octets : Walk → List ℕ
@@ -36,7 +36,7 @@ unfoldable pub rest_put : Walk → List ℕ → List ℕ
 rest_put w octets = pick (wrong walk_length octets) octets (take record_length octets ++ rest_octets w)
 
 -- what is read of the record in front
-abbrev pub front_read : List ℕ → RecordRead
+abbrev pub front_read : List ℕ → Result Link Refusal
 front_read octets = record_read (take record_length octets)
 
 -- the walk in 577 octets
@@ -44,7 +44,7 @@ unfoldable pub walk_in : List ℕ → Walk
 walk_in octets =
     record {
       live = eqb (get_or octets 295 0) 1;
-      link = (front_read octets).link;
+      link = value_of no_record (front_read octets);
       header = pair_at 296 octets;
       session = take 16 (drop 298 octets);
       state = box (take 256 (drop 316 octets)) (get_or octets 314 0) (get_or octets 315 0);
@@ -57,13 +57,13 @@ walk_in octets =
 abbrev pub walk_rows : List ℕ → List (ℕ × Bool)
 walk_rows octets =
     (not_record, wrong walk_length octets)
-    ∷ (not_record, not (eqb (front_read octets).answer done))
+    ∷ (not_record, is_err (front_read octets))
     ∷ (not_record, no_choice (get_or octets 295 0))
     ∷ []
 
--- what is read of them: a walk that is over, with the record that is read of octets that hold none
-abbrev pub no_walk : WalkRead
-no_walk = record { answer = not_record; walk = over no_record.link }
+-- what a refused answer has for a walk, `value_of no_walk (walk_read octets)`: one that is over, with the record of octets that hold none
+abbrev pub no_walk : Walk
+no_walk = over no_record
 
-unfoldable pub walk_read : List ℕ → WalkRead
-walk_read octets = on_done (first_of (walk_rows octets)) (record { answer = done; walk = walk_in octets }) no_walk
+unfoldable pub walk_read : List ℕ → Result Walk Refusal
+walk_read octets = result_of (first_of (walk_rows octets)) (walk_in octets)

@@ -2,11 +2,11 @@
 // the first protocol octet 1. Numbers have their highest octet first.
 #![tactic(auto)]
 
-ghost use Rattle.std.specs.Prelude.{◌≡◌, length};
-ghost use Rattle.mppe_walk.specs.Walk.{key_octets, fed_octets, rest_put, walk_length, walk_octets, front_read, walk_in, no_walk, walk_read};
+ghost use Rattle.std.specs.Prelude.{◌≡◌, length, Ok};
+ghost use Rattle.mppe_walk.specs.Walk.{key_octets, fed_octets, rest_put, walk_length, walk_octets, front_read, walk_in, walk_read};
 
+use answer::Refusal;
 use mppe::Link;
-use mppe_keys::{Mode, Strength};
 use mppe_pieces::Walk;
 use mppe_record::{read_record, record_octets, yes_number};
 use octets::pair;
@@ -31,19 +31,11 @@ const FED_AT: usize = 574;
 // Where the first protocol octet stands.
 const FIRST_AT: usize = 576;
 
-// The number answered, and the walk read; one that is over, with no record, where it is refused.
-#[derive(Clone, Copy)]
-pub struct WalkRead {
-    pub answer: u8,
-    pub walk: Walk,
-}
-
 // The octets of a walk.
 pub fn walk_octets(walk: Walk) -> [u8; 577]
     ensures { result ≡ walk_octets walk }
 {
-    let link = walk.link;
-    let front = record_octets(link);
+    let front = record_octets(walk.link);
     let mut octets = [0u8; 577];
     octets::copy(&front, &mut octets);
     put_rest(walk, &mut octets);
@@ -59,11 +51,10 @@ pub fn put_rest(walk: Walk, octets: &mut [u8])
     }
     let keyed = key_octets(walk);
     let state = walk.state;
-    let cells = state.cells;
     let fed = fed_octets(walk);
     octets::copy_at(&keyed, LIVE_AT, octets);
     octets::copy_at(&[state.i, state.j], STATE_AT, octets);
-    octets::copy_at(&cells, CELLS_AT, octets);
+    octets::copy_at(&state.cells, CELLS_AT, octets);
     octets::copy_at(&fed, TOTAL_AT, octets);
 }
 
@@ -71,61 +62,38 @@ pub fn put_rest(walk: Walk, octets: &mut [u8])
 fn key_octets(walk: Walk) -> [u8; 19]
     ensures { (result ≡ key_octets walk) × (length result ≡ 19) }
 {
-    let header = walk.header;
-    let session = walk.session;
+    let [high, low] = walk.header.to_be_bytes();
     let mut octets = [0u8; 19];
-    octets::copy(
-        &[
-            yes_number(walk.live),
-            (header / 256) as u8,
-            (header % 256) as u8,
-        ],
-        &mut octets,
-    );
-    octets::copy_at(&session, 3, &mut octets);
+    octets::copy(&[yes_number(walk.live), high, low], &mut octets);
+    octets::copy_at(&walk.session, 3, &mut octets);
     octets
 }
 
 // The total, the octets fed, and the first protocol octet.
+#[tactic(auto, unfolding(crate::specs::Walk::fed_octets))]
 fn fed_octets(walk: Walk) -> [u8; 5]
     ensures { result ≡ fed_octets walk }
 {
-    let total = walk.total;
-    let fed = walk.fed;
-    [
-        (total / 256) as u8,
-        (total % 256) as u8,
-        (fed / 256) as u8,
-        (fed % 256) as u8,
-        walk.first,
-    ]
+    let [total_high, total_low] = walk.total.to_be_bytes();
+    let [fed_high, fed_low] = walk.fed.to_be_bytes();
+    [total_high, total_low, fed_high, fed_low, walk.first]
 }
 
 // Reads a walk; refused as `record` where the octets are not 577, do not begin with a record, or the walk is neither live nor not.
-#[tactic(auto, using(crate::proofs::Laws::not_live))]
-pub fn read_walk(octets: &[u8]) -> WalkRead
+#[tactic(auto, unfolding(crate::specs::Walk::walk_read))]
+pub fn read_walk(octets: &[u8]) -> Result<Walk, Refusal>
     ensures { result ≡ walk_read octets.now }
 {
-    if octets.len() != WALK_LENGTH {
-        return no_walk();
+    if octets.len() != WALK_LENGTH || 1 < octets[LIVE_AT] {
+        return Err(Refusal::Record);
     }
-    let read = read_record(&octets[..LIVE_AT]);
-    if read.answer != answer::DONE {
-        return no_walk();
-    }
-    if 1 < octets[LIVE_AT] {
-        return no_walk();
-    }
-    let link = read.link;
-    WalkRead {
-        answer: answer::DONE,
-        walk: walk_in(link, octets),
-    }
+    let link = read_record(&octets[..LIVE_AT])?;
+    Ok(walk_in(link, octets))
 }
 
 // The walk in 577 octets, with the record in front of it.
 fn walk_in(link: Link, octets: &[u8]) -> Walk
-    requires { (link ≡ (front_read octets.now).link) × (length octets.now ≡ walk_length) }
+    requires { (front_read octets.now ≡ Ok link) × (length octets.now ≡ walk_length) }
     ensures { result ≡ walk_in octets.now }
 {
     let mut session = [0u8; 16];
@@ -145,15 +113,5 @@ fn walk_in(link: Link, octets: &[u8]) -> Walk
         total: pair(octets[TOTAL_AT], octets[TOTAL_AT + 1]),
         fed: pair(octets[FED_AT], octets[FED_AT + 1]),
         first: octets[FIRST_AT],
-    }
-}
-
-// What is read of octets that hold no walk.
-fn no_walk() -> WalkRead
-    ensures { result ≡ no_walk }
-{
-    WalkRead {
-        answer: answer::RECORD,
-        walk: mppe_pieces::over(mppe::no_link(Strength::Bits40, Mode::Stateless)),
     }
 }

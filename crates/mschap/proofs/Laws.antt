@@ -1,24 +1,19 @@
 -- What follows from the definitions alone: the lengths of all results, what a call within its limits answers, and what a check says.
-use Rattle.std.specs.Prelude.{◌≡◌, refl, Bool, true, false, ◌||◌, List, [], ◌∷◌, ◌++◌, ℕ, zero, suc, ◌*◌, ◌%◌, ◌≤◌, eqb, ltb, length, take, drop}
-use Rattle.std.proofs.Common.{sym, ◌∙◌, true≢false, arith, length-append, length-take-le, le-ltb, eq-eqb}
+use Rattle.std.specs.Prelude.{◌≡◌, Ok, Err, refl, Bool, true, false, ◌||◌, List, [], ◌∷◌, ◌++◌, ℕ, ◌*◌, ◌%◌, ◌≤◌, eqb, ltb, length, take, drop}
+use Rattle.std.proofs.Common.{sym, ap, ◌∙◌, true≢false, arith, length-append, length-take-le, le-ltb, eq-eqb}
 use Rattle.std.proofs.Math.Bool.{or_assoc, or-true}
-use Rattle.std.proofs.lemmas.Bool.{false≢true}
-use Rattle.answer.specs.Answer.{done, size, domain, pick, wrong, first_of}
-use Rattle.answer.specs.Laws.{right, never}
+use Rattle.answer.specs.declared.Refusal.TheVariants.{Domain}
+use Rattle.answer.specs.Answer.{done, size, domain, number_of, pick, wrong, first_of, result_of}
+use Rattle.answer.specs.Laws.{right, never, listed, numbered, number_first, ok_only}
 use Rattle.octets.specs.Laws.{equal_same, equal_true}
 use Rattle.md4.specs.Laws.{md4_length}
 use Rattle.sha_1.specs.Sha1.{sha1}
 use Rattle.sha_1.specs.Laws.{sha1_length}
 use Rattle.des.specs.Laws.{encrypted_length}
-use Rattle.mschap.specs.declared.Hash.{Hash}
-use Rattle.mschap.specs.declared.ChallengeHash.{ChallengeHash}
-use Rattle.mschap.specs.declared.NtResponse.{NtResponse}
-use Rattle.mschap.specs.declared.AuthenticatorString.{AuthenticatorString}
-use Rattle.mschap.specs.declared.Checked.{Checked}
 use Rattle.mschap.specs.Lengths.{longest_password, longest_name, challenge_length, response_length, hash_length, challenge_hash_length, string_length}
 use Rattle.mschap.specs.Name.{backslash, holds, following, name_rows, hashed_name}
 use Rattle.mschap.specs.Mschap.{password_hash, hash_hash, challenge_hash, z_password_hash, challenge_response, nt_response, hex_digits, encoded, signature, authenticator_string}
-use Rattle.mschap.specs.Answers.{password_rows, challenge_rows, response_rows, string_rows, hash_answer, challenge_answer, response_answer, string_answer, check_answer, password_hash_answer, hash_hash_answer, challenge_hash_answer, challenge_response_answer, nt_response_answer, authenticator_string_answer, check_response_answer, check_authenticator_answer}
+use Rattle.mschap.specs.Answers.{password_rows, challenge_rows, response_rows, string_rows, password_hash_answer, hash_hash_answer, challenge_hash_answer, challenge_response_answer, nt_response_answer, authenticator_string_answer, check_response_answer, check_authenticator_answer}
 
 -- the lengths of all results
 pub password_hash_length : (password : List ℕ) → length (password_hash password) ≡ hash_length
@@ -128,59 +123,43 @@ pub response_fits : (authenticator peer name password : List ℕ) → length pas
 response_fits authenticator peer name password h e hp ha hn =
     password_fits password (challenge_rows peer authenticator name) h e ∙ challenge_fits peer authenticator name hp ha hn
 
--- a call within its limits answers 0 and its result
+-- a call within its limits answers its result
 pub password_hash_done : (password : List ℕ) → length password ≤ longest_password → length password % 2 ≡ 0
-    → ◌≡◌ {A = Hash} (password_hash_answer password) (record { answer = done; octets = password_hash password })
-unfolding password_hash_answer hash_answer
+    → password_hash_answer password ≡ Ok (password_hash password)
+unfolding password_hash_answer
 password_hash_done password h e = rw (password_fits password [] h e)
 
-pub hash_hash_done : (hash : List ℕ) → length hash ≡ hash_length
-    → ◌≡◌ {A = Hash} (hash_hash_answer hash) (record { answer = done; octets = hash_hash hash })
-unfolding hash_hash_answer hash_answer
+pub hash_hash_done : (hash : List ℕ) → length hash ≡ hash_length → hash_hash_answer hash ≡ Ok (hash_hash hash)
+unfolding hash_hash_answer
 hash_hash_done hash h = rw (right hash_length hash h)
 
 pub challenge_hash_done : (peer authenticator name : List ℕ) → length peer ≡ challenge_length → length authenticator ≡ challenge_length
-    → first_of (name_rows name) ≡ done
-    → ◌≡◌ {A = ChallengeHash}
-    (challenge_hash_answer peer authenticator name)
-    (record { answer = done; octets = challenge_hash peer authenticator name })
-unfolding challenge_hash_answer challenge_answer
+    → first_of (name_rows name) ≡ done → challenge_hash_answer peer authenticator name ≡ Ok (challenge_hash peer authenticator name)
+unfolding challenge_hash_answer
 challenge_hash_done peer authenticator name hp ha hn = rw (challenge_fits peer authenticator name hp ha hn)
 
 pub challenge_response_done : (challenge hash : List ℕ) → length challenge ≡ challenge_hash_length → length hash ≡ hash_length
-    → ◌≡◌ {A = NtResponse} (challenge_response_answer challenge hash) (record { answer = done; octets = challenge_response challenge hash })
-unfolding challenge_response_answer response_answer
+    → challenge_response_answer challenge hash ≡ Ok (challenge_response challenge hash)
+unfolding challenge_response_answer
 challenge_response_done challenge hash hc hh =
     rw (right challenge_hash_length challenge hc, right hash_length hash hh)
 
 pub nt_response_done : (authenticator peer name password : List ℕ) → first_of (response_rows authenticator peer name password) ≡ done
-    → ◌≡◌ {A = NtResponse}
-    (nt_response_answer authenticator peer name password)
-    (record { answer = done; octets = nt_response authenticator peer name password })
-unfolding nt_response_answer response_answer
+    → nt_response_answer authenticator peer name password ≡ Ok (nt_response authenticator peer name password)
+unfolding nt_response_answer
 nt_response_done authenticator peer name password h = rw h
 
 pub authenticator_string_done : (password response peer authenticator name : List ℕ) → length response ≡ response_length
     → first_of (response_rows authenticator peer name password) ≡ done
-    → ◌≡◌ {A = AuthenticatorString}
-    (authenticator_string_answer password response peer authenticator name)
-    (record { answer = done; octets = authenticator_string password response peer authenticator name })
-unfolding authenticator_string_answer string_answer
+    → authenticator_string_answer password response peer authenticator name ≡ Ok (authenticator_string password response peer authenticator name)
+unfolding authenticator_string_answer
 authenticator_string_done password response peer authenticator name hr h =
     rw (right response_length response hr, h)
 
--- a yes comes with a 0, and with no difference
-check_yes : (code : ℕ) (same : Bool) → (check_answer code same).yes ≡ true → (code ≡ done) × (same ≡ true)
-unfolding check_answer
-check_yes zero same h = (refl, h)
-check_yes (suc n) same h = absurd (false≢true h)
-
 -- the check says yes to the NT-Response that the same password gives ..
 pub check_response_yes : (authenticator peer name password : List ℕ) → first_of (response_rows authenticator peer name password) ≡ done
-    → ◌≡◌ {A = Checked}
-    (check_response_answer authenticator peer name password (nt_response authenticator peer name password))
-    (record { answer = done; yes = true })
-unfolding check_response_answer check_answer
+    → check_response_answer authenticator peer name password (nt_response authenticator peer name password) ≡ Ok true
+unfolding check_response_answer
 check_response_yes authenticator peer name password h =
     let own : List ℕ = nt_response authenticator peer name password in
     rw (
@@ -192,18 +171,17 @@ check_response_yes authenticator peer name password h =
 
 -- .. and to no other
 pub check_response_only : (authenticator peer name password received : List ℕ)
-    → (check_response_answer authenticator peer name password received).yes ≡ true → received ≡ nt_response authenticator peer name password
+    → check_response_answer authenticator peer name password received ≡ Ok true → received ≡ nt_response authenticator peer name password
 unfolding check_response_answer
 check_response_only authenticator peer name password received h =
-    sym (equal_true (nt_response authenticator peer name password) received (check_yes _ _ h).1)
+    sym (equal_true (nt_response authenticator peer name password) received (ok_only _ _ h).1)
 
 -- so does the check of a string
 pub check_authenticator_yes : (password response peer authenticator name : List ℕ)
     → first_of (string_rows password response peer authenticator name) ≡ done
-    → ◌≡◌ {A = Checked}
-    (check_authenticator_answer password response peer authenticator name (authenticator_string password response peer authenticator name))
-    (record { answer = done; yes = true })
-unfolding check_authenticator_answer check_answer
+    → check_authenticator_answer password response peer authenticator name (authenticator_string password response peer authenticator name)
+    ≡ Ok true
+unfolding check_authenticator_answer
 check_authenticator_yes password response peer authenticator name h =
     let own : List ℕ = authenticator_string password response peer authenticator name in
     rw (
@@ -214,11 +192,11 @@ check_authenticator_yes password response peer authenticator name h =
     )
 
 pub check_authenticator_only : (password response peer authenticator name received : List ℕ)
-    → (check_authenticator_answer password response peer authenticator name received).yes ≡ true
+    → check_authenticator_answer password response peer authenticator name received ≡ Ok true
     → received ≡ authenticator_string password response peer authenticator name
 unfolding check_authenticator_answer
 check_authenticator_only password response peer authenticator name received h =
-    sym (equal_true (authenticator_string password response peer authenticator name) received (check_yes _ _ h).1)
+    sym (equal_true (authenticator_string password response peer authenticator name) received (ok_only _ _ h).1)
 
 -- two names for which each of the five calls that hash a name answers the same, whatever else it is given
 abbrev pub SameAnswers : List ℕ → List ℕ → Type 0
@@ -246,17 +224,21 @@ domain_ignored domain user ed eu h =
     same_answers (domain ++ backslash ∷ user) user h (omega (arith, all)) (hashed_user domain user ed ∙ sym (hashed_whole user eu))
 
 -- 9 is given by none of them
+not_given : {A : Type 0} (rows : List (ℕ × Bool)) (x : A) → listed rows ≡ true → numbered domain rows ≡ false
+    → result_of (first_of rows) x ≡ Err Domain → ⊥
+not_given rows x all none e = never domain rows refl none (sym (number_first rows x all) ∙ ap number_of e)
+
 pub domain_never : (password response peer authenticator name received : List ℕ)
-    → ((challenge_hash_answer peer authenticator name).answer ≡ domain → ⊥)
-    × ((nt_response_answer authenticator peer name password).answer ≡ domain → ⊥)
-    × ((authenticator_string_answer password response peer authenticator name).answer ≡ domain → ⊥)
-    × ((check_response_answer authenticator peer name password received).answer ≡ domain → ⊥)
-    × ((check_authenticator_answer password response peer authenticator name received).answer ≡ domain → ⊥)
-unfolding challenge_hash_answer challenge_answer nt_response_answer response_answer authenticator_string_answer string_answer check_response_answer check_authenticator_answer check_answer
+    → (challenge_hash_answer peer authenticator name ≡ Err Domain → ⊥)
+    × (nt_response_answer authenticator peer name password ≡ Err Domain → ⊥)
+    × (authenticator_string_answer password response peer authenticator name ≡ Err Domain → ⊥)
+    × (check_response_answer authenticator peer name password received ≡ Err Domain → ⊥)
+    × (check_authenticator_answer password response peer authenticator name received ≡ Err Domain → ⊥)
+unfolding challenge_hash_answer nt_response_answer authenticator_string_answer check_response_answer check_authenticator_answer
 domain_never password response peer authenticator name received = (
-  never domain (challenge_rows peer authenticator name) refl refl,
-  never domain (response_rows authenticator peer name password) refl refl,
-  never domain (string_rows password response peer authenticator name) refl refl,
-  never domain ((size, wrong response_length received) ∷ response_rows authenticator peer name password) refl refl,
-  never domain ((size, wrong string_length received) ∷ string_rows password response peer authenticator name) refl refl,
+  not_given (challenge_rows peer authenticator name) _ refl refl,
+  not_given (response_rows authenticator peer name password) _ refl refl,
+  not_given (string_rows password response peer authenticator name) _ refl refl,
+  not_given ((size, wrong response_length received) ∷ response_rows authenticator peer name password) _ refl refl,
+  not_given ((size, wrong string_length received) ∷ string_rows password response peer authenticator name) _ refl refl,
 )

@@ -1,12 +1,8 @@
 -- What the calls answer (01, "Numbers a call may answer" and "Lengths"). Every row is one of 3: refusal 9 is no longer given (02, M-100).
-use Rattle.std.specs.Prelude.{Bool, false, not, List, [], ◌∷◌, ◌++◌, ℕ, ◌%◌, eqb, ltb, length, replicate}
-use Rattle.answer.specs.Answer.{size, first_of, on_done, wrong}
+use Rattle.std.specs.Prelude.{Bool, not, List, [], ◌∷◌, ◌++◌, ℕ, ◌%◌, eqb, ltb, length, Result}
+use Rattle.answer.specs.declared.Refusal.{Refusal}
+use Rattle.answer.specs.Answer.{size, first_of, result_of, wrong}
 use Rattle.octets.specs.Octets.{equal}
-use Rattle.mschap.specs.declared.Hash.{Hash}
-use Rattle.mschap.specs.declared.ChallengeHash.{ChallengeHash}
-use Rattle.mschap.specs.declared.NtResponse.{NtResponse}
-use Rattle.mschap.specs.declared.AuthenticatorString.{AuthenticatorString}
-use Rattle.mschap.specs.declared.Checked.{Checked}
 use Rattle.mschap.specs.Lengths.{longest_password, challenge_length, response_length, hash_length, challenge_hash_length, string_length}
 use Rattle.mschap.specs.Name.{name_rows}
 use Rattle.mschap.specs.Mschap.{password_hash, hash_hash, challenge_hash, challenge_response, nt_response, authenticator_string}
@@ -27,55 +23,38 @@ response_rows authenticator peer name password = password_rows password ++ chall
 abbrev pub string_rows : (password response peer authenticator name : List ℕ) → List (ℕ × Bool)
 string_rows password response peer authenticator name = (size, wrong response_length response) ∷ response_rows authenticator peer name password
 
--- an answer: its code, and the result where that is 0
-unfoldable pub hash_answer : ℕ → List ℕ → Hash
-hash_answer code hash = record { answer = code; octets = on_done code hash (replicate hash_length 0) }
+-- the answers of the calls: the result where no row applies, and otherwise the first refusal
+unfoldable pub password_hash_answer : List ℕ → Result (List ℕ) Refusal
+password_hash_answer password = result_of (first_of (password_rows password)) (password_hash password)
 
-unfoldable pub challenge_answer : ℕ → List ℕ → ChallengeHash
-challenge_answer code hash = record { answer = code; octets = on_done code hash (replicate challenge_hash_length 0) }
+unfoldable pub hash_hash_answer : List ℕ → Result (List ℕ) Refusal
+hash_hash_answer hash = result_of (first_of ((size, wrong hash_length hash) ∷ [])) (hash_hash hash)
 
-unfoldable pub response_answer : ℕ → List ℕ → NtResponse
-response_answer code response = record { answer = code; octets = on_done code response (replicate response_length 0) }
-
-unfoldable pub string_answer : ℕ → List ℕ → AuthenticatorString
-string_answer code string = record { answer = code; octets = on_done code string (replicate string_length 0) }
-
--- a refused answer has "its yes or no a no"; "A comparison that finds a difference says no; that is a 0"
-unfoldable pub check_answer : ℕ → Bool → Checked
-check_answer code same = record { answer = code; yes = on_done code same false }
-
--- the answers of the calls
-unfoldable pub password_hash_answer : List ℕ → Hash
-password_hash_answer password = hash_answer (first_of (password_rows password)) (password_hash password)
-
-unfoldable pub hash_hash_answer : List ℕ → Hash
-hash_hash_answer hash = hash_answer (first_of ((size, wrong hash_length hash) ∷ [])) (hash_hash hash)
-
-unfoldable pub challenge_hash_answer : (peer authenticator name : List ℕ) → ChallengeHash
+unfoldable pub challenge_hash_answer : (peer authenticator name : List ℕ) → Result (List ℕ) Refusal
 challenge_hash_answer peer authenticator name =
-    challenge_answer (first_of (challenge_rows peer authenticator name)) (challenge_hash peer authenticator name)
+    result_of (first_of (challenge_rows peer authenticator name)) (challenge_hash peer authenticator name)
 
-unfoldable pub challenge_response_answer : (challenge hash : List ℕ) → NtResponse
+unfoldable pub challenge_response_answer : (challenge hash : List ℕ) → Result (List ℕ) Refusal
 challenge_response_answer challenge hash =
-    response_answer (first_of ((size, wrong challenge_hash_length challenge) ∷ (size, wrong hash_length hash) ∷ []))
+    result_of (first_of ((size, wrong challenge_hash_length challenge) ∷ (size, wrong hash_length hash) ∷ []))
     (challenge_response challenge hash)
 
-unfoldable pub nt_response_answer : (authenticator peer name password : List ℕ) → NtResponse
+unfoldable pub nt_response_answer : (authenticator peer name password : List ℕ) → Result (List ℕ) Refusal
 nt_response_answer authenticator peer name password =
-    response_answer (first_of (response_rows authenticator peer name password)) (nt_response authenticator peer name password)
+    result_of (first_of (response_rows authenticator peer name password)) (nt_response authenticator peer name password)
 
-unfoldable pub authenticator_string_answer : (password response peer authenticator name : List ℕ) → AuthenticatorString
+unfoldable pub authenticator_string_answer : (password response peer authenticator name : List ℕ) → Result (List ℕ) Refusal
 authenticator_string_answer password response peer authenticator name =
-    string_answer (first_of (string_rows password response peer authenticator name))
+    result_of (first_of (string_rows password response peer authenticator name))
     (authenticator_string password response peer authenticator name)
 
--- "say yes exactly if every octet equals the one worked out here"
-unfoldable pub check_response_answer : (authenticator peer name password received : List ℕ) → Checked
+-- "say yes exactly if every octet equals the one worked out here"; "A comparison that finds a difference says no; that is a 0"
+unfoldable pub check_response_answer : (authenticator peer name password received : List ℕ) → Result Bool Refusal
 check_response_answer authenticator peer name password received =
-    check_answer (first_of ((size, wrong response_length received) ∷ response_rows authenticator peer name password))
+    result_of (first_of ((size, wrong response_length received) ∷ response_rows authenticator peer name password))
     (equal (nt_response authenticator peer name password) received)
 
-unfoldable pub check_authenticator_answer : (password response peer authenticator name received : List ℕ) → Checked
+unfoldable pub check_authenticator_answer : (password response peer authenticator name received : List ℕ) → Result Bool Refusal
 check_authenticator_answer password response peer authenticator name received =
-    check_answer (first_of ((size, wrong string_length received) ∷ string_rows password response peer authenticator name))
+    result_of (first_of ((size, wrong string_length received) ∷ string_rows password response peer authenticator name))
     (equal (authenticator_string password response peer authenticator name) received)

@@ -1,17 +1,18 @@
 -- Laws of the packets, which follow from the definitions alone: what is written reads back, what is read is written the same again,
 -- and padding changes nothing.
-use Rattle.std.specs.Prelude.{◌≡◌, Bool, true, false, not, ◌||◌, ℕ, zero, suc, ◌+◌, ◌-◌, ◌/◌, ◌%◌, ◌≤◌, ◌<◌, eqb, ltb, take, get_or, replicate}
+use Rattle.std.specs.Prelude.{◌≡◌, Ok, Bool, true, false, not, ◌||◌, ℕ, zero, suc, ◌+◌, ◌-◌, ◌/◌, ◌%◌, ◌≤◌, ◌<◌, eqb, ltb, take, get_or, replicate}
 use Rattle.std.proofs.Math.Path.{refl, sym, ap}
-use Rattle.std.proofs.Common.{◌∙◌, suc-ne-zero, length-drop, take_at, take-add, take-suc, drop_at, get_or-take, length-take-le}
+use Rattle.std.proofs.Common.{◌∙◌, length-drop, take_at, take-add, take-suc, drop_at, get_or-take, length-take-le}
 use mathlib.Core.List.{List, [], ◌∷◌, ◌++◌, append_assoc, append-nil}
+use Rattle.std.proofs.lemmas.List.Folds.{list_any-append}
 use Rattle.std.proofs.Math.Decide.{dec_le}
 use native.Mathlib.Omega.{arith}
 use Rattle.std.proofs.Math.ListN.{length, drop, length-append}
 use Rattle.std.proofs.lemmas.List.{take-append-le, drop-append-le}
 use Rattle.std.proofs.Math.Seq.{take-append_seam, drop-drop}
 use borrow.Author.Tests.{ltb-false, lt-ltb, eqb-true, not-false, le-ltb, eq-eqb}
-use Rattle.answer.specs.Answer.{done, shape, size, pick, on_done, wrong}
-use Rattle.answer.specs.Laws.{clear}
+use Rattle.answer.specs.Answer.{done, shape, size, pick, on_done, result_of, wrong}
+use Rattle.answer.specs.Laws.{clear, ok_only}
 use Rattle.octets.specs.Octets.{Octets, written}
 use Rattle.mschap_packets.specs.declared.Kind.{Kind}
 use Rattle.mschap_packets.specs.declared.Kind.TheVariants as kinds
@@ -138,9 +139,7 @@ written_done t packet name out h =
 
 -- a Challenge that a call wrote reads back to the same fields and name, whatever the buffer holds behind it
 pub challenge_reads_back : (identifier : ℕ) (challenge name out : List ℕ) → challenge_code identifier challenge name out ≡ done
-    → (◌≡◌ {A = Challenge}
-    (challenge_read (challenge_out identifier challenge name out))
-    (record { answer = done; identifier = identifier; value = challenge }))
+    → (challenge_read (challenge_out identifier challenge name out) ≡ Ok (record { identifier = identifier; value = challenge }))
     × (name_of kinds.Challenge (challenge_out identifier challenge name out) ≡ name)
 unfolding challenge_code challenge_out challenge_read
 challenge_reads_back identifier challenge name out h =
@@ -166,9 +165,8 @@ value_parts peer response = (simp append_assoc, simp append_assoc, simp append_a
 
 -- .. and so does a Response
 pub response_reads_back : (identifier : ℕ) (peer response name out : List ℕ) → response_code identifier peer response name out ≡ done
-    → (◌≡◌ {A = Response}
-    (response_read (response_out identifier peer response name out))
-    (record { answer = done; identifier = identifier; peer_challenge = peer; nt_response = response }))
+    → (response_read (response_out identifier peer response name out)
+    ≡ Ok (record { identifier = identifier; peer_challenge = peer; nt_response = response }))
     × (name_of kinds.Response (response_out identifier peer response name out) ≡ name)
 unfolding response_code response_out response_read
 response_reads_back identifier peer response name out h =
@@ -196,12 +194,7 @@ response_reads_back identifier peer response name out h =
 
 -- reserved octets that are clear are zeros
 pub set_append : (a b : List ℕ) → any_set (a ++ b) ≡ any_set a || any_set b
-set_append [] b = refl
-set_append (x ∷ a) b = rw (set_append a b) (sym (or_assoc (not (eqb x 0)) (any_set a) (any_set b)))
-  where
-    or_assoc : (x y z : Bool) → (x || y) || z ≡ x || (y || z)
-    or_assoc true y z = refl
-    or_assoc false y z = refl
+set_append a b = list_any-append (λ octet. not (eqb octet 0)) a b
 
 zeros : (l : List ℕ) → any_set l ≡ false → l ≡ replicate (length l) 0
 zeros [] h = refl
@@ -276,21 +269,15 @@ write_again kind identifier value packet out octets h ei ev right room =
     let fits = le-ltb (length out) (length (take (length_field packet) packet)) (omega arith) in
     rw (right, made, short-name, fits) (refl, refl)
 
--- what a call that answered 0 gave
-given : {A : Type 0} {r : A} (answer-of : A → ℕ) (n : ℕ) (result refused : A) → answer-of refused ≡ n → on_done n result refused ≡ r
-    → answer-of r ≡ done → (n ≡ done) × (result ≡ r)
-given answer-of zero result refused er e z = (refl, e)
-given answer-of (suc n) result refused er e z = absurd (suc-ne-zero n (sym er ∙ ap answer-of e ∙ z))
-
 -- a Challenge of octets that a call read is written again as it stood, up to its length, from the fields and the name that were read
 pub challenge_writes_again : (identifier : ℕ) (challenge packet out : List ℕ) → Octets packet
-    → ◌≡◌ {A = Challenge} (challenge_read packet) (record { answer = done; identifier = identifier; value = challenge })
+    → challenge_read packet ≡ Ok (record { identifier = identifier; value = challenge })
     → length_field packet ≤ length out
     → (challenge_code identifier challenge (name_of kinds.Challenge packet) out ≡ done)
     × (challenge_out identifier challenge (name_of kinds.Challenge packet) out ≡ written (take (length_field packet) packet) out)
 unfolding challenge_read challenge_code challenge_out
 challenge_writes_again identifier challenge packet out octets e room =
-    let r = given (λ (r : Challenge). r.answer) (read_code kinds.Challenge packet) _ _ refl e refl in
+    let r = ok_only (read_code kinds.Challenge packet) _ e in
     let shaped = (read_done kinds.Challenge packet r.0).0 in
     let long : 21 ≤ length packet = omega (arith, shaped.least, shaped.inside) in
     let id : get_or packet 1 0 ≡ identifier = ap (λ (r : Challenge). r.identifier) r.1 in
@@ -300,13 +287,13 @@ challenge_writes_again identifier challenge packet out octets e room =
 
 -- .. and so is a Response
 pub response_writes_again : (identifier : ℕ) (peer response packet out : List ℕ) → Octets packet
-    → ◌≡◌ {A = Response} (response_read packet) (record { answer = done; identifier = identifier; peer_challenge = peer; nt_response = response })
+    → response_read packet ≡ Ok (record { identifier = identifier; peer_challenge = peer; nt_response = response })
     → length_field packet ≤ length out
     → (response_code identifier peer response (name_of kinds.Response packet) out ≡ done)
     × (response_out identifier peer response (name_of kinds.Response packet) out ≡ written (take (length_field packet) packet) out)
 unfolding response_read response_code response_out
 response_writes_again identifier peer response packet out octets e room =
-    let r = given (λ (r : Response). r.answer) (read_code kinds.Response packet) _ _ refl e refl in
+    let r = ok_only (read_code kinds.Response packet) _ e in
     let shaped = (read_done kinds.Response packet r.0).0 in
     let long : 54 ≤ length packet = omega (arith, shaped.least, shaped.inside) in
     let id : get_or packet 1 0 ≡ identifier = ap (λ (r : Response). r.identifier) r.1 in
@@ -324,6 +311,10 @@ same_done : {A : Type 0} (n : ℕ) (result result' refused : A) → (n ≡ done 
     → on_done n result refused ≡ on_done n result' refused
 same_done zero result result' refused h = h refl
 same_done (suc n) result result' refused h = refl
+
+same_result : {A : Type 0} (n : ℕ) (result result' : A) → (n ≡ done → result ≡ result') → result_of n result ≡ result_of n result'
+same_result zero result result' h = rw (h refl)
+same_result (suc n) result result' h = refl
 
 -- octets behind the length that a packet names are padding: with any of them every call answers the same, also where it refuses
 module _ (packet padding : List ℕ) (headed : header_length ≤ length packet) (inside : length_field packet ≤ length packet) where
@@ -376,13 +367,13 @@ module _ (packet padding : List ℕ) (headed : header_length ≤ length packet) 
   unfolding challenge_read
   challenge_padded =
       rw (code_padded kinds.Challenge)
-      (same_done (read_code kinds.Challenge packet) _ _ _ (λ h.
+      (same_result (read_code kinds.Challenge packet) _ _ (λ h.
       rw (octet_padded 1 (omega arith), part_padded 5 16 (omega (arith, valued kinds.Challenge h)))))
 
   pub response_padded : response_read (packet ++ padding) ≡ response_read packet
   unfolding response_read
   response_padded =
       rw (code_padded kinds.Response)
-      (same_done (read_code kinds.Response packet) _ _ _ (λ h.
+      (same_result (read_code kinds.Response packet) _ _ (λ h.
       let long = valued kinds.Response h in
       rw (octet_padded 1 (omega arith), part_padded 5 16 (omega arith), part_padded 29 24 (omega arith))))

@@ -1,6 +1,8 @@
 -- Challenge and Response packets (RFC 1994, section 4.1; RFC 2759, sections 3 and 4), as 01, "MS-CHAPv2", condenses them.
-use Rattle.std.specs.Prelude.{Bool, false, not, ◌||◌, List, [], ◌∷◌, ◌++◌, ℕ, ◌+◌, ◌*◌, ◌-◌, eqb, ltb, length, take, drop, get_or, replicate}
-use Rattle.answer.specs.Answer.{done, shape, room, size, first_of, on_done, wrong}
+use Rattle.std.specs.Prelude.{Bool, not, ◌||◌, List, [], ◌∷◌, ◌++◌, ℕ, ◌+◌, ◌*◌, ◌-◌, eqb, ltb, length, take, drop, get_or, replicate, Result}
+use Rattle.std.specs.List.{list_any}
+use Rattle.answer.specs.declared.Refusal.{Refusal}
+use Rattle.answer.specs.Answer.{shape, room, size, first_of, on_done, result_of, wrong}
 use Rattle.octets.specs.Octets.{big_endian, written}
 use Rattle.mschap_packets.specs.declared.Kind.{Kind}
 use Rattle.mschap_packets.specs.declared.Kind.TheVariants as kinds
@@ -62,8 +64,7 @@ reserved kinds.Response packet = part 21 8 packet ++ part 53 1 packet
 
 -- whether one of them is not zero
 abbrev pub any_set : List ℕ → Bool
-any_set [] = false
-any_set (x ∷ xs) = not (eqb x 0) || any_set xs
+any_set octets = list_any (λ octet. not (eqb octet 0)) octets
 
 -- what is asked of a packet: "Packet readers: 1, 3"
 abbrev pub read_rows : Kind → List ℕ → List (ℕ × Bool)
@@ -82,25 +83,20 @@ unfoldable pub read_code : Kind → List ℕ → ℕ
 read_code kind packet = first_of (read_rows kind packet)
 
 -- a Challenge read: its value is its challenge
-unfoldable pub challenge_read : List ℕ → Challenge
+unfoldable pub challenge_read : List ℕ → Result Challenge Refusal
 challenge_read packet =
-    let code : ℕ = read_code kinds.Challenge packet in
-    on_done code
-    (record { answer = done; identifier = get_or packet 1 0; value = part header_length challenge_length packet })
-    (record { answer = code; identifier = 0; value = replicate 16 0 })
+    result_of (read_code kinds.Challenge packet)
+    (record { identifier = get_or packet 1 0; value = part header_length challenge_length packet })
 
 -- a Response read: peer challenge and NT-Response by their places in the packet
-unfoldable pub response_read : List ℕ → Response
+unfoldable pub response_read : List ℕ → Result Response Refusal
 response_read packet =
-    let code : ℕ = read_code kinds.Response packet in
-    on_done code
+    result_of (read_code kinds.Response packet)
     (record {
-      answer = done;
       identifier = get_or packet 1 0;
       peer_challenge = part header_length challenge_length packet;
       nt_response = part 29 response_length packet;
     })
-    (record { answer = code; identifier = 0; peer_challenge = replicate 16 0; nt_response = replicate 24 0 })
 
 -- the name: "that part of the caller's packet", from the end of the value to the length field; "a refused packet gives the empty part";
 -- "The part returned from a packet stays the whole name" (02, M-100)

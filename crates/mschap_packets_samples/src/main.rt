@@ -3,7 +3,7 @@
 
 ghost use Rattle.std.specs.Prelude.{◌<◌, ◌≤◌};
 
-use mschap_packets::Kind;
+use mschap_packets::{Challenge, Kind, Response};
 use std::io;
 use std::io::{BufWriter, Write};
 
@@ -21,8 +21,11 @@ const NT_RESPONSE: [u8; 24] = [
     0x42, 0x33, 0x11, 0x4A, 0x3D, 0x85, 0xD6, 0xDF,
 ];
 
+// The lengths of names, at each limit.
+const NAMES: [usize; 5] = [0, 1, 255, 256, 257];
+
 // The lengths that a packet of 320 octets is made to name: none, about the least of each kind, its own, about the longest name, the slice's and beyond.
-const LENGTHS: [usize; 18] = [
+const LENGTHS: [u16; 18] = [
     0, 5, 20, 21, 22, 25, 53, 54, 55, 58, 277, 278, 310, 311, 319, 320, 321, 65535,
 ];
 
@@ -58,71 +61,43 @@ fn cases<W: Write>(writer: &mut W, kind: Kind, least: usize) -> io::Result<()>
 fn names<W: Write>(writer: &mut W, kind: Kind, least: usize) -> io::Result<()>
     requires { (21 ≤ least) × (least ≤ 54) }
 {
-    rooms(writer, kind, least, 0)?;
-    rooms(writer, kind, least, 1)?;
-    rooms(writer, kind, least, 255)?;
-    rooms(writer, kind, least, 256)?;
-    rooms(writer, kind, least, 257)
+    for n in NAMES {
+        rooms(writer, kind, least + n, n)?;
+    }
+    Ok(())
 }
 
 // Buffers with no room, with one octet too few, with just room and with more.
-fn rooms<W: Write>(writer: &mut W, kind: Kind, least: usize, n: usize) -> io::Result<()>
-    requires { (21 ≤ least) × (least ≤ 54) × (n ≤ 257) }
+fn rooms<W: Write>(writer: &mut W, kind: Kind, length: usize, n: usize) -> io::Result<()>
+    requires { (1 ≤ length) × (length ≤ 311) }
 {
-    let length = least + n;
-    named(writer, kind, n, 0)?;
-    named(writer, kind, n, length - 1)?;
-    named(writer, kind, n, length)?;
-    named(writer, kind, n, length + 3)
+    for room in [0, length - 1, length, length + 3] {
+        named(writer, kind, n, room)?;
+    }
+    Ok(())
 }
 
-// A packet with a name of n octets, in a buffer of as many octets as asked.
-fn named<W: Write>(writer: &mut W, kind: Kind, n: usize, room: usize) -> io::Result<()> {
+// A packet with a name of n octets written into a buffer of as many octets as asked, and the buffer read.
+fn named<W: Write>(writer: &mut W, kind: Kind, n: usize, room: usize) -> io::Result<()>
+    requires { room ≤ 314 }
+{
     let octets = counted();
     let mut out = [0xAAu8; 314];
-    in_front(writer, kind, first(&octets, n), &mut out, room)
-}
-
-// A packet in the first octets of a buffer.
-fn in_front<W: Write>(
-    writer: &mut W,
-    kind: Kind,
-    name: &[u8],
-    out: &mut [u8],
-    room: usize,
-) -> io::Result<()> {
-    if out.len() < room {
-        return Ok(());
-    }
-    write_and_read(writer, kind, name, &mut out[0..room])
-}
-
-// A packet written, and the buffer read.
-fn write_and_read<W: Write>(
-    writer: &mut W,
-    kind: Kind,
-    name: &[u8],
-    out: &mut [u8],
-) -> io::Result<()> {
-    write(writer, kind, name, out)?;
-    read(writer, kind, out)
+    let lent = &mut out[..room];
+    write(writer, kind, first(&octets, n), lent)?;
+    read(writer, kind, lent)
 }
 
 // The first n octets, or all where there are fewer.
 fn first(octets: &[u8], n: usize) -> &[u8] {
-    if octets.len() < n {
-        return octets;
-    }
-    &octets[0..n]
+    &octets[..n.min(octets.len())]
 }
 
 // Octets to cut names and values from.
 fn counted() -> [u8; 257] {
     let mut octets = [0u8; 257];
-    let mut i = 0;
-    while i < 257 {
-        octets[i] = (i % 256) as u8;
-        i += 1;
+    for (i, octet) in octets.iter_mut().enumerate() {
+        *octet = (i % 256) as u8;
     }
     octets
 }
@@ -137,10 +112,8 @@ fn sample<W: Write>(writer: &mut W, kind: Kind) -> io::Result<[u8; 320]> {
 // The sample cut to every length up to 60.
 fn slices<W: Write>(writer: &mut W, kind: Kind) -> io::Result<()> {
     let packet = sample(writer, kind)?;
-    let mut i = 0;
-    while i <= 60 {
-        read(writer, kind, first(&packet, i))?;
-        i += 1;
+    for n in 0..61 {
+        read(writer, kind, first(&packet, n))?;
     }
     Ok(())
 }
@@ -148,10 +121,8 @@ fn slices<W: Write>(writer: &mut W, kind: Kind) -> io::Result<()> {
 // The sample with bits of one octet turned, for each of the first 60.
 fn changed<W: Write>(writer: &mut W, kind: Kind, bits: u8) -> io::Result<()> {
     let packet = sample(writer, kind)?;
-    let mut i = 0;
-    while i < 60 {
+    for i in 0..60 {
         read(writer, kind, &turned(packet, i, bits))?;
-        i += 1;
     }
     Ok(())
 }
@@ -161,26 +132,23 @@ fn turned(packet: [u8; 320], i: usize, bits: u8) -> [u8; 320]
     requires { i < 320 }
 {
     let mut out = packet;
-    out[i] = out[i] ^ bits;
+    out[i] ^= bits;
     out
 }
 
 // The sample with other lengths named.
 fn lengths<W: Write>(writer: &mut W, kind: Kind) -> io::Result<()> {
     let packet = sample(writer, kind)?;
-    let mut i = 0;
-    while i < 18 {
-        read(writer, kind, &lengthened(packet, LENGTHS[i]))?;
-        i += 1;
+    for n in LENGTHS {
+        read(writer, kind, &lengthened(packet, n))?;
     }
     Ok(())
 }
 
 // A packet with another length named.
-fn lengthened(packet: [u8; 320], n: usize) -> [u8; 320] {
+fn lengthened(packet: [u8; 320], n: u16) -> [u8; 320] {
     let mut out = packet;
-    out[2] = (n / 256 % 256) as u8;
-    out[3] = (n % 256) as u8;
+    out[2..4].copy_from_slice(&n.to_be_bytes());
     out
 }
 
@@ -200,54 +168,58 @@ fn exchanged<W: Write>(writer: &mut W) -> io::Result<()> {
 
 // Challenges of other lengths; 3 comes before 2.
 fn challenges<W: Write>(writer: &mut W) -> io::Result<()> {
-    challenge_of(writer, 0, &mut [0xAA; 30])?;
-    challenge_of(writer, 15, &mut [0xAA; 30])?;
-    challenge_of(writer, 16, &mut [0xAA; 30])?;
-    challenge_of(writer, 17, &mut [0xAA; 30])?;
+    for n in [0, 15, 16, 17] {
+        challenge_of(writer, n, &mut [0xAA; 30])?;
+    }
     challenge_of(writer, 15, &mut [])
 }
 
 // A Challenge with the first n octets for its challenge.
 fn challenge_of<W: Write>(writer: &mut W, n: usize, out: &mut [u8]) -> io::Result<()> {
     let octets = counted();
-    let answer = mschap_packets::write_challenge(255, first(&octets, n), b"User", out);
-    report::numbered(writer, b"challenge of", n, answer, out)
+    let given = mschap_packets::write_challenge(255, first(&octets, n), b"User", out);
+    report::numbered(writer, b"challenge of", n, answer::number_of(&given), out)
 }
 
 // Peer challenges and NT-Responses of other lengths; 3 comes before 2.
 fn responses<W: Write>(writer: &mut W) -> io::Result<()> {
-    response_of(writer, 15, 24, &mut [0xAA; 60])?;
-    response_of(writer, 17, 24, &mut [0xAA; 60])?;
-    response_of(writer, 16, 23, &mut [0xAA; 60])?;
-    response_of(writer, 16, 25, &mut [0xAA; 60])?;
-    response_of(writer, 16, 24, &mut [0xAA; 60])?;
+    for (n, m) in [(15, 24), (17, 24), (16, 23), (16, 25), (16, 24)] {
+        response_of(writer, n, m, &mut [0xAA; 60])?;
+    }
     response_of(writer, 0, 0, &mut [])
 }
 
 // A Response with the first n and m octets for its two fields.
 fn response_of<W: Write>(writer: &mut W, n: usize, m: usize, out: &mut [u8]) -> io::Result<()> {
-    let peer = counted();
-    let response = counted();
-    let answer = mschap_packets::write_response(
-        0,
-        first(&peer, n),
-        first(&response, m),
-        b"User",
-        out,
-    );
-    report::numbered(writer, b"response of", n, answer, out)
+    let octets = counted();
+    let peer = first(&octets, n);
+    let response = first(&octets, m);
+    let given = mschap_packets::write_response(0, peer, response, b"User", out);
+    report::numbered(writer, b"response of", n, answer::number_of(&given), out)
 }
 
 // Writes RFC 2759's values with a name, and prints the number and the whole buffer.
 fn write<W: Write>(writer: &mut W, kind: Kind, name: &[u8], out: &mut [u8]) -> io::Result<()> {
     match kind {
         Kind::Challenge => {
-            let answer = mschap_packets::write_challenge(7, &AUTHENTICATOR, name, out);
-            report::numbered(writer, b"write challenge", name.len(), answer, out)
+            let given = mschap_packets::write_challenge(7, &AUTHENTICATOR, name, out);
+            report::numbered(
+                writer,
+                b"write challenge",
+                name.len(),
+                answer::number_of(&given),
+                out,
+            )
         }
         Kind::Response => {
-            let answer = mschap_packets::write_response(7, &PEER, &NT_RESPONSE, name, out);
-            report::numbered(writer, b"write response", name.len(), answer, out)
+            let given = mschap_packets::write_response(7, &PEER, &NT_RESPONSE, name, out);
+            report::numbered(
+                writer,
+                b"write response",
+                name.len(),
+                answer::number_of(&given),
+                out,
+            )
         }
     }
 }
@@ -262,35 +234,40 @@ fn read<W: Write>(writer: &mut W, kind: Kind, packet: &[u8]) -> io::Result<()> {
     report::numbered(writer, b"name of", name.len(), 0, name)
 }
 
-// The fields of a Challenge: number, identifier, value.
+// The fields of a Challenge, zeros where it is refused: number, identifier, value.
 fn read_challenge<W: Write>(writer: &mut W, packet: &[u8]) -> io::Result<()> {
-    let c = mschap_packets::read_challenge(packet);
-    let value = c.value;
-    report::numbered(writer, b"challenge", wide(c.identifier), c.answer, &value)
+    let given = mschap_packets::read_challenge(packet);
+    let number = answer::number_of(&given);
+    let fields = given.unwrap_or(Challenge {
+        identifier: 0,
+        value: [0; 16],
+    });
+    let identifier = usize::from(fields.identifier);
+    report::numbered(writer, b"challenge", identifier, number, &fields.value)
 }
 
-// The fields of a Response: number, identifier, peer challenge, NT-Response.
+// The fields of a Response, zeros where it is refused: number, identifier, peer challenge, NT-Response.
 fn read_response<W: Write>(writer: &mut W, packet: &[u8]) -> io::Result<()> {
-    let r = mschap_packets::read_response(packet);
-    let peer = r.peer_challenge;
-    let response = r.nt_response;
+    let given = mschap_packets::read_response(packet);
+    let number = answer::number_of(&given);
+    let fields = given.unwrap_or(Response {
+        identifier: 0,
+        peer_challenge: [0; 16],
+        nt_response: [0; 24],
+    });
+    let identifier = usize::from(fields.identifier);
     report::numbered(
         writer,
         b"peer challenge",
-        wide(r.identifier),
-        r.answer,
-        &peer,
+        identifier,
+        number,
+        &fields.peer_challenge,
     )?;
     report::numbered(
         writer,
         b"NT-Response",
-        wide(r.identifier),
-        r.answer,
-        &response,
+        identifier,
+        number,
+        &fields.nt_response,
     )
-}
-
-// An octet as a number to print.
-fn wide(x: u8) -> usize {
-    x as usize
 }

@@ -6,11 +6,9 @@ use native.Mathlib.Nat.{mod-eq_of_lt}
 use native.Mathlib.Omega.{arith}
 use lib.ListN.{length, get_or, set, length-set}
 use lib.Seq.{get_or-set_same}
-use Rattle.rc4.specs.Cipher.{box, swap, next_i, next_j, step, drawn}
+use Rattle.rc4.specs.Cipher.{swap, next_i, next_j, step, drawn}
 use Rattle.rc4.specs.declared.Rc4.{Rc4}
-use Rattle.rc4.specs.declared.Drawn.{Drawn}
 use Rattle.rc4.specs.Inner.{wrapped, first_cell, OctetCells}
-use Rattle.rc4.specs.Answers.{draw_answer}
 use Rattle.rc4.proofs.Boxes.{swap_octets}
 
 -- after a swap each of the two cells has what the other had
@@ -62,9 +60,3 @@ step_octets s e whole = rw e (swap_octets s.cells (next_i s) (next_j s) whole)
 -- a state's own indices are octets, which wrapping leaves as they are
 pub unwrapped : (s : Rc4) {c : List ℕ} (i j : ℕ) → c ≡ s.cells → i ≡ s.i → j ≡ s.j → i < 256 → j < 256 → wrapped c i j ≡ s
 unwrapped s i j ec ei ej hi hj = rw (mod-eq_of_lt hi, mod-eq_of_lt hj, ec, ei, ej)
-
--- what a draw by value answers, from a draw in place over its cells as words, narrowed
-pub draw_answers : (s : Rc4) {words words' c : List ℕ} (i j d : ℕ) {o i' j' : ℕ} → words ≡ s.cells → i ≡ s.i → j ≡ s.j → o ≡ drawn (wrapped words i j)
-    → wrapped words' (i + 1) d ≡ step (wrapped words i j) → c ≡ words' → i' ≡ (i + 1) % 256 → j' ≡ d % 256 → i < 256 → j < 256
-    → ◌≡◌ {A = Drawn} (record { octet = o; state = box c i' j' }) (draw_answer s)
-draw_answers s i j d ec ei ej eo es ec' ei' ej' hi hj = rw (eo, ec', ei', ej', es, unwrapped s i j ec ei ej hi hj)

@@ -2,27 +2,14 @@
 use mathlib.Core.Path.{◌≡◌, refl, sym, ap, ◌∙◌}
 use mathlib.Core.List.{List, [], ◌∷◌, ◌++◌}
 use Prim.Native.Nat.{ℕ, zero, suc, ◌+◌, ◌*◌, ◌%◌, ◌<◌, ◌≤◌}
-use borrow.Author.Tests.{lt-ltb, le-ltb}
 use native.Mathlib.Nat.{mod-add-mod, zero-mod}
 use native.Mathlib.Numerals.{add-one}
 use native.Mathlib.Omega.{arith}
-use lib.ListN.{length, take, set, get_or, replicate}
-use lib.Seq.{take-suc-set}
-use Rattle.answer.specs.Answer.{size}
-use Rattle.rc4.specs.declared.Keyed.{Keyed}
-use Rattle.rc4.specs.Cipher.{box, below, swap, round_j, round, rounds}
+use lib.ListN.{length, get_or}
+use Rattle.rc4.specs.Cipher.{below, swap, round_j, round, rounds}
 use Rattle.rc4.specs.Inner.{OctetCells}
 use Rattle.rc4.proofs.Permutation.{below_length}
 use Rattle.rc4.proofs.Boxes.{swap_octets}
-use Rattle.rc4.specs.Answers.{shortest_key, longest_key, keyed_answer}
-
--- one cell more of the box that a key schedule starts from
-pub below_more : (cells : List ℕ) (n m v : ℕ) → take n cells ≡ below n → v ≡ n → length cells ≡ 256 → n < 256 → m ≡ n + 1
-    → take m (set cells n v) ≡ below m
-unfolding below
-below_more cells n m v e at long h next =
-    let fits : n < length cells = omega arith in
-    rw (next, add-one, take-suc-set cells n v fits, e, at)
 
 -- an octet behind octets
 snoc_octets : (l : List ℕ) (v : ℕ) → v < 256 → ((k : ℕ) → get_or l k 0 < 256) → (k : ℕ) → get_or (l ++ (v ∷ [])) k 0 < 256
@@ -76,13 +63,3 @@ mixed_more {key} {cells} {cells'} {place} {j} {i} {place'} {j'} m sum near swapp
       cells_are = rw add-one (rw (j_is, add-one, m.cells_are) at swapped);
       j_is = j_is;
     }
-
--- a refused key answers its number, and zeros
-module _ (key : List ℕ) where
-  pub too_short : length key < shortest_key → ◌≡◌ {A = Keyed} (record { answer = size; state = box (replicate 256 0) 0 0 }) (keyed_answer key)
-  unfolding keyed_answer
-  too_short h = rw (lt-ltb (length key) shortest_key h)
-
-  pub too_long : shortest_key ≤ length key → longest_key < length key → ◌≡◌ {A = Keyed} (record { answer = size; state = box (replicate 256 0) 0 0 }) (keyed_answer key)
-  unfolding keyed_answer
-  too_long low h = rw (le-ltb (length key) shortest_key low, lt-ltb longest_key (length key) h)

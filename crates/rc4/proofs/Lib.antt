@@ -8,3 +8,4 @@ pub mod Keys
 pub mod Runs
 pub mod Texts
 pub mod Marks
+pub mod Made

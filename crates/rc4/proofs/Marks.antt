@@ -1,19 +1,23 @@
--- Whether a box is a permutation: a mark for each number that stands in it, and all marks together.
+-- Whether a box is a permutation, by a mark for each number that stands in it; whether a state is the unkeyed one.
 use mathlib.Core.Path.{◌≡◌, refl, sym, ◌∙◌}
-use mathlib.Core.Bool.{Bool, true, false, ◌&&◌, ◌||◌, and-true}
+use mathlib.Core.Bool.{Bool, true, false, ◌&&◌, ◌||◌}
 use mathlib.Core.List.{List, [], ◌∷◌, ◌++◌, perm_append_singleton}
-use Prim.Native.Nat.{ℕ, ◌+◌, ◌%◌, ◌<◌}
+use Prim.Native.Nat.{ℕ, zero, suc, ◌+◌, ◌<◌}
 use native.Mathlib.Numerals.{add-one}
 use native.Mathlib.Omega.{arith}
-use lib.Bits.{bit_and}
 use lib.Dec.{eqb}
-use lib.ListN.{length, length-set, take, drop, set, get_or, get_or-replicate, replicate}
-use lib.Seq.{take_all, take-suc, drop-cons, drop-length, get_or-set_same, get_or-set_other}
-use borrow.Author.Tests.{eq-eqb, ne_eqb, eqb-true, eqb-false}
+use lib.ListN.{length, length-set, take, set, get_or, get_or-replicate, replicate}
+use lib.Seq.{take_all, take-suc, get_or-set_same, get_or-set_other}
+use borrow.Author.Tests.{eq-eqb, eqb-true, eqb-false}
+use Rattle.std.proofs.lemmas.Bool.Decides.{same_from_decides}
+use Rattle.std.specs.Cmp.Lexicographic.{pointwise}
+use Rattle.std.proofs.lemmas.List.{ext_get_or}
+use Rattle.std.proofs.lemmas.Slice.Eq.{bytes_eq-Decides}
+use Rattle.answer.specs.Laws.{both}
 use Rattle.rc4.specs.declared.Rc4.{Rc4}
-use Rattle.rc4.specs.Cipher.{among, all_among, permutation, in_order, is_unkeyed}
-use Rattle.rc4.specs.Inner.{mark, Marked, Tells}
-use Rattle.rc4.proofs.Permutation.{among_same}
+use Rattle.rc4.specs.Cipher.{among, all_among, permutation, unkeyed, is_unkeyed}
+use Rattle.rc4.specs.Inner.{mark, Marked}
+use Rattle.rc4.proofs.Permutation.{among_same, unkeyed_is, unkeyed_found}
 
 -- no cell is looked at
 pub marks_none : Marked [] (replicate 256 0)
@@ -44,63 +48,50 @@ marks_more {x} cells marks i e low h (long, marks-are) = (simp length-set long, 
 pub marks_all : (cells marks : List ℕ) → length cells ≡ 256 → Marked (take 256 cells) marks → Marked cells marks
 marks_all cells marks long m = rw (take_all 256 cells (omega arith)) at m
 
--- the marks of the numbers below n, joined
-pub joined_more : {all x : ℕ} (n : ℕ) (cells marks : List ℕ) → x ≡ get_or marks n 0 → n < 256 → Marked cells marks → all ≡ mark (all_among n cells)
-    → bit_and all x ≡ mark (all_among (n + 1) cells)
-unfolding Marked all_among
-joined_more n cells marks ex h (long, marks-are) ea = rw (ea, ex, marks-are n h, add-one n) (both (all_among n cells) (among n cells))
+-- the numbers below n are among the cells where each of them is
+all_at : (n : ℕ) (cells : List ℕ) → ((k : ℕ) → k < n → among k cells ≡ true) → all_among n cells ≡ true
+unfolding all_among
+all_at zero cells at = refl
+all_at (suc n) cells at = rw (all_at n cells (λ k h. at k (omega arith)), at n (omega arith))
+
+each_at : (n : ℕ) (cells : List ℕ) → all_among n cells ≡ true → (k : ℕ) → k < n → among k cells ≡ true
+unfolding all_among
+each_at zero cells all k h = absurd (omega arith)
+each_at (suc n) cells all k h =
+    let (fewer, last) = both (all_among n cells) (among n cells) all in
+    go (eqb k n) refl (each_at n cells fewer k) last
   where
-    both : (a b : Bool) → bit_and (mark a) (mark b) ≡ mark (a && b)
-    both true true = refl
-    both true false = refl
-    both false true = refl
-    both false false = refl
+    go : (t : Bool) → eqb k n ≡ t → (k < n → among k cells ≡ true) → among n cells ≡ true → among k cells ≡ true
+    go true e below last = rw (eqb-true k n e) last
+    go false e below last = let other = eqb-false k n e in below (omega arith)
 
-pub joined_tells : {all : ℕ} (a : Bool) → all ≡ mark a → eqb all 1 ≡ a
-joined_tells true e = rw e
-joined_tells false e = rw e
-
--- so a box is found to be a permutation
-pub permutation_told : {all : Bool} (cells marks : List ℕ) → length cells ≡ 256 → Marked cells marks → Tells marks all → all ≡ permutation cells
-unfolding permutation
-permutation_told cells marks long m tells = tells cells m ∙ rw (eq-eqb (length cells) 256 long)
-
--- cells looked at in order: what is found so far, and what is left
-pub order_more : {v : ℕ} {more : Bool} (found : Bool) (cells : List ℕ) (n : ℕ) → v ≡ n % 256 → n < 256 → length cells ≡ 256 → more ≡ eqb (get_or cells n 0) v && found
-    → found && in_order n (drop n cells) ≡ in_order 0 cells → more && in_order (n + 1) (drop (n + 1) cells) ≡ in_order 0 cells
-unfolding in_order
-order_more {v} found cells n ev h long em e =
-    let same : v ≡ n = omega arith in
-    let one : in_order n (drop n cells) ≡ eqb (get_or cells n 0) n && in_order (n + 1) (drop (n + 1) cells) = rw (drop-cons cells n 0 (omega arith), add-one n) in
-    rw (em, same) (by (eqb (get_or cells n 0) n) found (in_order (n + 1) (drop (n + 1) cells)) ∙ (rw one at e))
+-- so a box is a permutation where every number is marked
+pub permutation_told : {r : Bool} (cells marks : List ℕ) → length cells ≡ 256 → Marked cells marks → r ≡ pointwise eqb marks (replicate 256 1) → r ≡ permutation cells
+unfolding permutation Marked
+permutation_told {r} cells marks long (size, marks-are) e =
+    same_from_decides r (all_among 256 cells) (rw e (bytes_eq-Decides marks (replicate 256 1))) (told, found) ∙ rw (eq-eqb (length cells) 256 long)
   where
-    by : (a b c : Bool) → (a && b) && c ≡ b && (a && c)
-    by true b c = refl
-    by false true c = refl
-    by false false c = refl
+    told : all_among 256 cells ≡ true → marks ≡ replicate 256 1
+    told all = ext_get_or 0 marks (replicate 256 1) size (λ k h. let top : k < 256 = omega arith in marks-are k top ∙ rw (each_at 256 cells all k top) (sym (get_or-replicate 256 k 1 0 top)))
 
-pub order_all : (found : Bool) (cells : List ℕ) → length cells ≡ 256 → found && in_order 256 (drop 256 cells) ≡ in_order 0 cells → found ≡ in_order 0 cells
-unfolding in_order
-order_all found cells long e =
-    let none : drop 256 cells ≡ [] = rw (← long) (drop-length cells) in
-    sym (and-true found) ∙ (rw none at e)
+    found : marks ≡ replicate 256 1 → all_among 256 cells ≡ true
+    found same = all_at 256 cells (λ k h. set_mark (among k cells) (sym (marks-are k h) ∙ rw same (get_or-replicate 256 k 1 0 h)))
+      where
+        set_mark : (here : Bool) → mark here ≡ 1 → here ≡ true
+        set_mark true one = refl
+        set_mark false one = absurd (omega arith)
 
--- both indices, and then the cells
-pub unkeyed_told : {found : Bool} (s : Rc4) → s.i ≡ 0 → s.j ≡ 0 → found ≡ in_order 0 s.cells → found ≡ is_unkeyed s
-unfolding is_unkeyed
-unkeyed_told s ei ej e = rw (eq-eqb s.i 0 ei, eq-eqb s.j 0 ej) e
+-- and a state to be the unkeyed one where it equals it
+pub unkeyed_told : {r : Bool} (s u : Rc4) → u ≡ unkeyed → r ≡ pointwise eqb s.cells u.cells && (eqb s.i u.i && eqb s.j u.j) → r ≡ is_unkeyed s
+unkeyed_told {r} s u eu er = same_from_decides r (is_unkeyed s) (told, found) (unkeyed_is s, λ e. rw e unkeyed_found)
+  where
+    told : r ≡ true → s ≡ unkeyed
+    told h =
+        let (cells, indices) = both (pointwise eqb s.cells u.cells) (eqb s.i u.i && eqb s.j u.j) (sym er ∙ h) in
+        let (same_i, same_j) = both (eqb s.i u.i) (eqb s.j u.j) indices in
+        rw ((bytes_eq-Decides s.cells u.cells).0 cells, eqb-true s.i u.i same_i, eqb-true s.j u.j same_j) eu
 
-pub i_drawn : (s : Rc4) → (s.i ≡ 0 → ⊥) → false ≡ is_unkeyed s
-unfolding is_unkeyed
-i_drawn s h = rw (ne_eqb s.i 0 h)
-
-pub j_drawn : (s : Rc4) → s.i ≡ 0 → (s.j ≡ 0 → ⊥) → false ≡ is_unkeyed s
-unfolding is_unkeyed
-j_drawn s ei h = rw (eq-eqb s.i 0 ei, ne_eqb s.j 0 h)
-
--- two octets more
-pub still_same : (found : Bool) (a b : ℕ) → a ≡ b → found ≡ eqb a b && found
-still_same found a b e = rw (eq-eqb a b e)
-
-pub still_other : (found : Bool) (a b : ℕ) → (a ≡ b → ⊥) → false ≡ eqb a b && found
-still_other found a b h = rw (ne_eqb a b h)
+    found : s ≡ unkeyed → r ≡ true
+    found e =
+        let same : s ≡ u = e ∙ sym eu in
+        er ∙ rw (same, (bytes_eq-Decides u.cells u.cells).1 refl, eq-eqb u.i u.i refl, eq-eqb u.j u.j refl)

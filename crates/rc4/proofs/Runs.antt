@@ -3,11 +3,10 @@ use mathlib.Core.Path.{◌≡◌, refl, sym, ap, ◌∙◌}
 use mathlib.Core.List.{List, [], ◌∷◌, ◌++◌, append_assoc, append-nil}
 use Prim.Native.Nat.{ℕ, ◌+◌, ◌*◌, ◌/◌, ◌%◌, ◌<◌, ◌≤◌}
 use native.Mathlib.Nat.{add-zero, add_assoc}
-use native.Mathlib.Numerals.{add-one}
 use native.Mathlib.Omega.{arith}
 use lib.Bits.{bit_xor, xor_zero_l}
 use lib.ListN.{length, get_or, set, take, drop, drop_of_length-le, take-append-drop, replicate, get_or-replicate, length-append, length-drop}
-use lib.Seq.{drop-cons, take-suc-set, set_split, drop-drop, take_all, length-take-le, take_at, drop_at}
+use lib.Seq.{drop-cons, set_split, drop-drop, length-take-le, take_at, drop_at}
 use Rattle.octets.specs.Octets.{written}
 use Rattle.rc4.specs.declared.Rc4.{Rc4}
 use Rattle.rc4.specs.Cipher.{step, drawn, run, after}
@@ -55,17 +54,6 @@ onward c i n m j e = rw (← add_assoc i n m) e
 -- a zero xored with an octet is that octet
 pub from_zero : {v d : ℕ} (k m : ℕ) → k < m → v ≡ d → v ≡ bit_xor (get_or (replicate m 0) k 0) d
 from_zero {v} {d} k m h e = rw (get_or-replicate {A = ℕ} m k 0 0 h, xor_zero_l d) e
-
--- two lists xored into a buffer, one octet more
-pub xors_more : {full : List ℕ} (text octets out : List ℕ) (k : ℕ) → full ≡ take k out ++ xors (drop k text) (drop k octets)
-    → k < length text → k < length octets → k < length out
-    → full ≡ take (k + 1) (set out k (bit_xor (get_or text k 0) (get_or octets k 0))) ++ xors (drop (k + 1) text) (drop (k + 1) octets)
-xors_more text octets out k e ht hk ho =
-    rw (add-one, take-suc-set out k (bit_xor (get_or text k 0) (get_or octets k 0)) ho, append_assoc) (rw (drop-cons text k 0 ht, drop-cons octets k 0 hk) at e)
-
--- and all of them
-pub xors_all : {full : List ℕ} (text octets out : List ℕ) (k : ℕ) → full ≡ take k out ++ xors (drop k text) (drop k octets) → length text ≤ k → length out ≤ k → out ≡ full
-xors_all text octets out k e ht ho = sym ((rw (drop_of_length-le text ht) at e) ∙ append-nil _ ∙ take_all k out ho)
 
 -- a text is its xor with the keystream, which is what as many zeros give ..
 run_zeros : (s : Rc4) (text : List ℕ) → run s text ≡ xors text (run s (replicate (length text) 0))

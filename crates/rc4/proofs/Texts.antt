@@ -1,20 +1,20 @@
 -- A whole text: the parts of a run put together, what a run answers, and one that is judged by its first two octets.
-use mathlib.Core.Path.{◌≡◌, refl, sym, ◌∙◌}
+use mathlib.Core.Path.{◌≡◌, sym, ◌∙◌}
 use mathlib.Core.Bool.{Bool, true, false}
+use mathlib.Core.Logic.{◌⊎◌, ⊎_elim}
 use mathlib.Core.List.{List, [], ◌∷◌, ◌++◌, append_assoc, append-nil}
 use Prim.Native.Nat.{ℕ, ◌+◌, ◌-◌, ◌%◌, ◌<◌, ◌≤◌}
 use native.Mathlib.Omega.{arith}
-use borrow.Author.Tests.{ltb-false}
 use lib.ListN.{length, get_or, take, drop, length-append, length-drop, take-append-drop, drop_of_length-le}
 use lib.Seq.{take_all, take_at, drop_at, drop-drop, length-take-le}
-use Rattle.answer.specs.Answer.{done, room, size, protocol, pick, outside, first_of}
-use Rattle.answer.specs.Laws.{clear, rows_pass, rows_stop, not_done, within}
-use Rattle.octets.specs.Octets.{from_big_endian, pair_at, written, longest_text}
+use Rattle.std.specs.Prelude.{Ok}
+use Rattle.answer.specs.Answer.{done, protocol, pick, outside, first_of, result_of}
+use Rattle.answer.specs.Laws.{refusals, rows_pass, outside_low, outside_high, outside_none, ok_only}
+use Rattle.octets.specs.Octets.{from_big_endian, pair_at, written}
 use Rattle.rc4.specs.declared.Rc4.{Rc4}
-use Rattle.rc4.specs.declared.Ran.{Ran}
-use Rattle.rc4.specs.Cipher.{box, rounds, key_schedule, run, after}
-use Rattle.rc4.specs.Inner.{wrapped, OctetCells, Ready, Finished}
-use Rattle.rc4.specs.Answers.{shortest_key, longest_key, key_rows, text_rows, run_code, run_answer, run_out, apply_code, apply_out, keyed_if, number, numbered_rows, number_rows, number_code, within_code, within_answer, within_out}
+use Rattle.rc4.specs.Cipher.{box, key_schedule, run, after}
+use Rattle.rc4.specs.Inner.{wrapped, Ready, Finished}
+use Rattle.rc4.specs.Answers.{keyed_if, number_code}
 use Rattle.rc4.proofs.Laws.{run_length, run_cut, after_cut}
 use Rattle.rc4.proofs.Draws.{unwrapped}
 
@@ -94,58 +94,13 @@ whole_text s i j j₁ ec ei ej f ec' ei' ej' hi hj =
     let same = unwrapped s i j ec ei ej hi hj in
     (rw (ec', ei', ej') (rw same at f.stepped), rw same at f.wrote)
 
--- what the rows say of a key and of lengths where none applies
-pub key_fits : {t : Bool} (key : List ℕ) → t ≡ outside shortest_key longest_key (length key) → t ≡ false → shortest_key ≤ length key
-key_fits key e z = (within shortest_key longest_key (length key) (sym e ∙ z)).0
+-- rows that do not refuse leave it to those behind them
+pub behind_rows : {y : Unit {0}} {n : ℕ} (rows rest : List (ℕ × Bool)) → refusals rows ≡ true → Ok y ≡ result_of (first_of rows) tt → first_of rest ≡ n
+    → first_of (rows ++ rest) ≡ n
+behind_rows rows rest all h behind = rows_pass rows rest all (ok_only (first_of rows) tt (sym h)).0 ∙ behind
 
-pub text_fits : {code : ℕ} (n lent : ℕ) → code ≡ first_of (text_rows n lent) → code ≡ done → (n ≤ longest_text) × (n ≤ lent)
-text_fits n lent e z =
-    let sizes = clear size (text_rows n lent) refl (sym e ∙ z) in
-    let rooms = clear room (text_rows n lent) refl (sym e ∙ z) in
-    (ltb-false longest_text n sizes.0, ltb-false lent n rooms.0)
-
-pub numbered_fits : {code : ℕ} (fresh : Bool) (key : List ℕ) (n lent : ℕ) → code ≡ first_of (numbered_rows fresh key n lent) → code ≡ done
-    → (fresh ≡ true → shortest_key ≤ length key) × (number ≤ n) × (n ≤ longest_text) × (n ≤ lent)
-numbered_fits fresh key n lent e z =
-    let sizes = clear size (numbered_rows fresh key n lent) refl (sym e ∙ z) in
-    let rooms = clear room (numbered_rows fresh key n lent) refl (sym e ∙ z) in
-    let keyed : fresh ≡ true → shortest_key ≤ length key = λ f. (within shortest_key longest_key (length key) (rw f at sizes.0)).0 in
-    (keyed, ltb-false n number sizes.1.0, ltb-false longest_text n sizes.1.1.0, ltb-false lent n rooms.0)
-
--- what a loop over a whole text asks
-pub ready_text : {c text out : List ℕ} (i j : ℕ) → OctetCells c → i < 256 → j < 256 → length text ≤ longest_text → length text ≤ length out → Ready c i j text out
-ready_text i j whole hi hj h fits = record { whole = whole; i_near = omega arith; j_near = omega arith; room = fits }
-
--- the rows of a key before others
-pub no_key : {t : Bool} (key : List ℕ) (rows : List (ℕ × Bool)) → t ≡ outside shortest_key longest_key (length key) → t ≡ true → size ≡ first_of (key_rows key ++ rows)
-no_key key rows e z = rw (← e, z)
-
-pub behind_key : {t : Bool} {n : ℕ} (key : List ℕ) (rows : List (ℕ × Bool)) → t ≡ outside shortest_key longest_key (length key) → t ≡ false → n ≡ first_of rows
-    → n ≡ first_of (key_rows key ++ rows)
-behind_key key rows e z en = rw (← e, z) en
-
--- a run is refused by its number, and leaves the state and the buffer as they are ..
-module _ (s : Rc4) (text out : List ℕ) where
-  pub run_refused : {n : ℕ} → n ≡ run_code text out → (n ≡ done → ⊥) → (◌≡◌ {A = Ran} (record { answer = n; state = s }) (run_answer s text out)) × (out ≡ run_out s text out)
-  unfolding run_answer run_out
-  run_refused e h =
-      let some : run_code text out ≡ done → ⊥ = λ z. h (e ∙ z) in
-      (rw (e, not_done (run_code text out) (after s text) s some), sym (not_done (run_code text out) (written (run s text) out) out some))
-
--- .. and so is one whose number is not within bounds
-module _ (s : Rc4) (fresh : Bool) (key : List ℕ) (lowest highest : ℕ) (text out : List ℕ) where
-  pub numbered_stop : {n : ℕ} → n ≡ first_of (numbered_rows fresh key (length text) (length out)) → (n ≡ done → ⊥) → n ≡ within_code s fresh key lowest highest text out
-  numbered_stop e h = e ∙ sym (rows_stop (numbered_rows fresh key (length text) (length out)) (number_rows lowest highest (run (keyed_if s fresh key) text)) (λ z. h (e ∙ z)))
-
-  pub within_refused : {n : ℕ} {out' : List ℕ} → n ≡ within_code s fresh key lowest highest text out → (n ≡ done → ⊥) → out' ≡ out
-      → (◌≡◌ {A = Ran} (record { answer = n; state = s }) (within_answer s fresh key lowest highest text out)) × (out' ≡ within_out s fresh key lowest highest text out)
-  unfolding within_answer within_out
-  within_refused e h eo =
-      let code = within_code s fresh key lowest highest text out in
-      let some : code ≡ done → ⊥ = λ z. h (e ∙ z) in
-      (rw (e, not_done code (after (keyed_if s fresh key) text) s some), eo ∙ sym (not_done code (written (run (keyed_if s fresh key) text) out) out some))
-
-  -- over its cells as words
+-- the state of a key where RC4 is keyed afresh, else the one given, over its cells as words
+module _ (s : Rc4) (fresh : Bool) (key : List ℕ) where
   module _ {words : List ℕ} {i j : ℕ} (ec : words ≡ (keyed_if s fresh key).cells) (ei : i ≡ pick fresh 0 s.i) (ej : j ≡ pick fresh 0 s.j) (hi : i < 256) (hj : j < 256) where
     indices : (i ≡ (keyed_if s fresh key).i) × (j ≡ (keyed_if s fresh key).j)
     unfolding keyed_if key_schedule
@@ -155,31 +110,13 @@ module _ (s : Rc4) (fresh : Bool) (key : List ℕ) (lowest highest : ℕ) (text 
         by true ei ej = (ei, ej)
         by false ei ej = (ei, ej)
 
-    pub words_number : {n r : ℕ} → n ≡ first_of (numbered_rows fresh key (length text) (length out)) → n ≡ done → r ≡ number_code lowest highest (run (wrapped words i j) text)
-        → r ≡ within_code s fresh key lowest highest text out
-    words_number e z er =
-        (rw (unwrapped (keyed_if s fresh key) i j ec indices.0 indices.1 hi hj) at er)
-        ∙ sym (rows_pass (numbered_rows fresh key (length text) (length out)) (number_rows lowest highest (run (keyed_if s fresh key) text)) refl (sym e ∙ z))
+    pub words_state : keyed_if s fresh key ≡ wrapped words i j
+    words_state = sym (unwrapped (keyed_if s fresh key) i j ec indices.0 indices.1 hi hj)
 
-    pub words_done : {n j₁ i' j' : ℕ} {words' c out' : List ℕ} → n ≡ within_code s fresh key lowest highest text out → n ≡ done → Finished words i j text out words' j₁ out'
-        → c ≡ words' → i' ≡ (i + length text) % 256 → j' ≡ j₁ % 256
-        → (◌≡◌ {A = Ran} (record { answer = done; state = box c i' j' }) (within_answer s fresh key lowest highest text out)) × (out' ≡ within_out s fresh key lowest highest text out)
-    unfolding within_answer within_out
-    words_done {j₁ = j₁} e z f ec' ei' ej' =
-        let code = sym e ∙ z in
-        let (es, eo) = whole_text (keyed_if s fresh key) i j j₁ ec indices.0 indices.1 f ec' ei' ej' hi hj in
-        (rw (code, es), rw code eo)
-
--- the same of a key and a text
-module _ (key text out : List ℕ) where
-  pub apply_refused : {n : ℕ} → n ≡ apply_code key text out → (n ≡ done → ⊥) → (n ≡ apply_code key text out) × (out ≡ apply_out key text out)
-  unfolding apply_out
-  apply_refused e h = (e, sym (not_done (apply_code key text out) (written (run (key_schedule key) text) out) out (λ z. h (e ∙ z))))
-
-  pub applied : {n j : ℕ} {words words' out' : List ℕ} → n ≡ apply_code key text out → n ≡ done → words ≡ (rounds key 256).cells
-      → Finished words 0 0 text out words' j out' → (done ≡ apply_code key text out) × (out' ≡ apply_out key text out)
-  unfolding key_schedule apply_out
-  applied e z ew f = let code = sym e ∙ z in (sym code, (rw ew at f.wrote) ∙ rw code)
+    pub words_made : {text out words' c out' : List ℕ} {i' j' : ℕ} (last : ℕ) → Finished words i j text out words' last out' → c ≡ words'
+        → i' ≡ (i + length text) % 256 → j' ≡ last % 256
+        → (box c i' j' ≡ after (keyed_if s fresh key) text) × (out' ≡ written (run (keyed_if s fresh key) text) out)
+    words_made last f ec' ei' ej' = whole_text (keyed_if s fresh key) i j last ec indices.0 indices.1 f ec' ei' ej' hi hj
 
 -- the first two octets, run into a buffer of their own: their number ..
 pair_two : {n : ℕ} {two : List ℕ} (s : Rc4) (text : List ℕ) → two ≡ written (run s (take 2 text)) (0 ∷ 0 ∷ [])
@@ -191,11 +128,14 @@ pair_two s (x ∷ y ∷ text) e en h = en ∙ rw e
 
 module _ (s : Rc4) (text : List ℕ) (lowest highest : ℕ) {n : ℕ} {two : List ℕ} (e : two ≡ written (run s (take 2 text)) (0 ∷ 0 ∷ []))
     (en : n ≡ from_big_endian (get_or two 0 0 ∷ get_or two 1 0 ∷ [])) (long : 2 ≤ length text) where
-  pub number_off : {t : Bool} → t ≡ outside lowest highest n → t ≡ true → protocol ≡ number_code lowest highest (run s text)
-  number_off et z = rw (← pair_two s text e en long, ← et, z)
+  pub number_off : (n < lowest) ⊎ ((lowest ≤ n) × (highest < n)) → number_code lowest highest (run s text) ≡ protocol
+  number_off h = rw (← pair_two s text e en long, off)
+    where
+      off : outside lowest highest n ≡ true
+      off = ⊎_elim (λ low. outside_low lowest highest n low) (λ high. outside_high lowest highest n high.0 high.1) h
 
-  pub number_within : {t : Bool} → t ≡ outside lowest highest n → t ≡ false → done ≡ number_code lowest highest (run s text)
-  number_within et z = rw (← pair_two s text e en long, ← et, z)
+  pub number_within : lowest ≤ n → n ≤ highest → number_code lowest highest (run s text) ≡ done
+  number_within low high = rw (← pair_two s text e en long, outside_none lowest highest n low high)
 
 -- .. and from there into the buffer lent
 pub ready_two : {c text out : List ℕ} {i j : ℕ} → Ready c i j text out → 2 ≤ length text → Ready c i j (take 2 text) (0 ∷ 0 ∷ [])
@@ -203,10 +143,11 @@ ready_two {text = text} r h =
     let front = ready_front 2 r h in
     record { whole = front.whole; i_near = front.i_near; j_near = front.j_near; room = omega (arith, length-take-le 2 text h) }
 
-pub lent_two : {c c₁ out₁ two : List ℕ} {i j j₁ : ℕ} (text out : List ℕ) → Finished c i j (take 2 text) (0 ∷ 0 ∷ []) c₁ j₁ two
-    → out₁ ≡ written (take (length out) two) out → 2 ≤ length text → length text ≤ length out → Finished c i j (take 2 text) out c₁ j₁ out₁
-lent_two {c} {c₁} {out₁} {two} {i} {j} text out f e h fits =
+pub lent_two : {c c₁ two ys : List ℕ} {i j j₁ : ℕ} (text out : List ℕ) → Finished c i j (take 2 text) (0 ∷ 0 ∷ []) c₁ j₁ two → ys ≡ two
+    → 2 ≤ length text → length text ≤ length out
+    → Finished c i j (take 2 text) out c₁ j₁ (ys ++ drop 2 out) × (length (ys ++ drop 2 out) ≡ length out)
+lent_two {c} {two = two} {ys} {i} {j} text out f e h fits =
     let plain = run (wrapped c i j) (take 2 text) in
     let size : length plain ≡ 2 = run_length (wrapped c i j) (take 2 text) ∙ length-take-le 2 text h in
     let same : two ≡ plain = f.wrote ∙ rw (drop_of_length-le {A = ℕ} (0 ∷ 0 ∷ []) {i = length plain} (omega arith), append-nil) in
-    record { wrote = e ∙ rw (same, take_all (length out) plain (omega arith)); stepped = f.stepped; whole = f.whole; near = f.near }
+    (record { wrote = rw (e, same, size); stepped = f.stepped; whole = f.whole; near = f.near }, rw (length-append, length-drop, e, same, size) (omega arith))

@@ -1,12 +1,11 @@
 -- What the calls answer (01, "Numbers a call may answer" and "Lengths").
-use Rattle.std.specs.Prelude.{Bool, ◌&&◌, List, [], ◌∷◌, ◌++◌, ℕ, ltb, length, replicate}
-use Rattle.answer.specs.Answer.{size, room, protocol, pick, outside, first_of, on_done}
+use Rattle.std.specs.Prelude.{Bool, ◌&&◌, List, [], ◌∷◌, ◌++◌, ℕ, ltb, length, Result}
+use Rattle.answer.specs.declared.Refusal.{Refusal}
+use Rattle.answer.specs.Answer.{size, room, protocol, pick, outside, first_of, on_done, result_of}
 use Rattle.octets.specs.Octets.{pair_at, written, longest_text}
 use Rattle.rc4.specs.declared.Rc4.{Rc4}
-use Rattle.rc4.specs.declared.Keyed.{Keyed}
 use Rattle.rc4.specs.declared.Drawn.{Drawn}
-use Rattle.rc4.specs.declared.Ran.{Ran}
-use Rattle.rc4.specs.Cipher.{box, key_schedule, step, drawn, run, after}
+use Rattle.rc4.specs.Cipher.{key_schedule, step, drawn, run, after}
 
 -- "RC4 key: 1 to 256"
 abbrev pub shortest_key : ℕ
@@ -22,9 +21,9 @@ key_rows key = (size, outside shortest_key longest_key (length key)) ∷ []
 abbrev pub key_code : List ℕ → ℕ
 key_code key = first_of (key_rows key)
 
--- a refused key has zeros
-unfoldable pub keyed_answer : List ℕ → Keyed
-keyed_answer key = record { answer = key_code key; state = on_done (key_code key) (key_schedule key) (box (replicate 256 0) 0 0) }
+-- a key gives its state
+unfoldable pub keyed_answer : List ℕ → Result Rc4 Refusal
+keyed_answer key = result_of (key_code key) (key_schedule key)
 
 -- any state draws
 abbrev pub draw_answer : Rc4 → Drawn
@@ -40,11 +39,11 @@ run_rows text out = text_rows (length text) (length out)
 abbrev pub run_code : (text out : List ℕ) → ℕ
 run_code text out = first_of (run_rows text out)
 
--- a refused text hands back the state given ..
-unfoldable pub run_answer : (s : Rc4) (text out : List ℕ) → Ran
-run_answer s text out = record { answer = run_code text out; state = on_done (run_code text out) (after s text) s }
+-- a text gives the state after it; where it is refused, the caller still has the state that it gave ..
+unfoldable pub run_answer : (s : Rc4) (text out : List ℕ) → Result Rc4 Refusal
+run_answer s text out = result_of (run_code text out) (after s text)
 
--- .. and leaves the lent buffer as it was
+-- .. and the lent buffer is as it was
 unfoldable pub run_out : (s : Rc4) (text out : List ℕ) → List ℕ
 run_out s text out = on_done (run_code text out) (written (run s text) out) out
 
@@ -55,7 +54,11 @@ apply_rows key text out = key_rows key ++ run_rows text out
 abbrev pub apply_code : (key text out : List ℕ) → ℕ
 apply_code key text out = first_of (apply_rows key text out)
 
--- RC4 keyed with a key, applied to a text; a refusal leaves the lent buffer as it was
+-- RC4 keyed with a key, applied to a text: nothing is handed back beside the octets ..
+unfoldable pub apply_answer : (key text out : List ℕ) → Result (Unit {0}) Refusal
+apply_answer key text out = result_of (apply_code key text out) tt
+
+-- .. and a refusal leaves the lent buffer as it was
 unfoldable pub apply_out : (key text out : List ℕ) → List ℕ
 apply_out key text out = on_done (apply_code key text out) (written (run (key_schedule key) text) out) out
 
@@ -81,13 +84,12 @@ abbrev pub within_code : (s : Rc4) (fresh : Bool) (key : List ℕ) (lowest highe
 within_code s fresh key lowest highest text out =
     first_of (numbered_rows fresh key (length text) (length out) ++ number_rows lowest highest (run (keyed_if s fresh key) text))
 
--- a refusal hands back the state given ..
-unfoldable pub within_answer : (s : Rc4) (fresh : Bool) (key : List ℕ) (lowest highest : ℕ) (text out : List ℕ) → Ran
+-- a text gives the state after it; where it is refused, the caller still has the state that it gave ..
+unfoldable pub within_answer : (s : Rc4) (fresh : Bool) (key : List ℕ) (lowest highest : ℕ) (text out : List ℕ) → Result Rc4 Refusal
 within_answer s fresh key lowest highest text out =
-    let code : ℕ = within_code s fresh key lowest highest text out in
-    record { answer = code; state = on_done code (after (keyed_if s fresh key) text) s }
+    result_of (within_code s fresh key lowest highest text out) (after (keyed_if s fresh key) text)
 
--- .. and leaves the lent buffer as it was
+-- .. and the lent buffer is as it was
 unfoldable pub within_out : (s : Rc4) (fresh : Bool) (key : List ℕ) (lowest highest : ℕ) (text out : List ℕ) → List ℕ
 within_out s fresh key lowest highest text out =
     on_done (within_code s fresh key lowest highest text out) (written (run (keyed_if s fresh key) text) out) out

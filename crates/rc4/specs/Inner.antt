@@ -4,7 +4,7 @@ use Rattle.std.specs.Int.Bits.{bit_xor}
 use Rattle.answer.specs.Answer.{pick}
 use Rattle.octets.specs.Octets.{written}
 use Rattle.rc4.specs.declared.Rc4.{Rc4}
-use Rattle.rc4.specs.Cipher.{box, run, after, among, all_among}
+use Rattle.rc4.specs.Cipher.{box, run, after, among}
 
 -- the state of a box whose indices are carried on without being wrapped mod 256
 abbrev pub wrapped : List ℕ → ℕ → ℕ → Rc4
@@ -45,7 +45,3 @@ mark here = pick here 1 0
 
 unfoldable pub Marked : (cells marks : List ℕ) → Type 0
 Marked cells marks = (length marks ≡ 256) × ((n : ℕ) → n < 256 → get_or marks n 0 ≡ mark (among n cells))
-
--- whether marks are all set, whichever cells they are those of
-abbrev pub Tells : (marks : List ℕ) (all : Bool) → Type 0
-Tells marks all = (cells : List ℕ) → Marked cells marks → all ≡ all_among 256 cells

@@ -1,14 +1,16 @@
 // RC4: the key schedule, a draw, a run over a text, and a generator lent by reference (01, "Digests, DES and RC4").
-#![tactic(auto)]
+#![tactic(auto, unfolding(crate::specs::Answers::keyed_answer, crate::specs::Answers::run_answer, crate::specs::Answers::run_out, crate::specs::Answers::apply_answer, crate::specs::Answers::apply_out, crate::specs::Answers::within_answer, crate::specs::Answers::within_out))]
 
-ghost use Rattle.std.specs.Prelude.{◌≡◌, true, ◌&&◌, [], ◌∷◌, ◌+◌, ◌%◌, ◌^◌, ◌<◌, ◌≤◌, eqb, length, get_or, replicate};
-ghost use Rattle.answer.specs.Answer.{done, pick, outside, first_of};
+ghost use Rattle.std.specs.Prelude.{◌≡◌, true, ◌&&◌, ◌+◌, ◌%◌, ◌^◌, ◌<◌, ◌≤◌, length, get_or, replicate, MatchResult};
+ghost use Rattle.answer.specs.Answer.{done, protocol, pick, first_of, result_of};
+ghost use Rattle.answer.specs.declared.Refusal.{Refusal};
 ghost use Rattle.octets.specs.Octets.{written, longest_text};
-ghost use Rattle.rc4.specs.Cipher.{below, permutation, unkeyed, in_order, is_unkeyed, swap, rounds, step, drawn, run, after};
-ghost use Rattle.rc4.specs.Answers.{keyed_answer, draw_answer, run_answer, run_out, apply_code, apply_out, shortest_key, longest_key, number, number_code, text_rows, numbered_rows, keyed_if, within_answer, within_out};
-ghost use Rattle.rc4.specs.Inner.{wrapped, first_cell, xors, OctetCells, Ready, Finished, Marked, Tells};
+ghost use Rattle.rc4.specs.Cipher.{below, permutation, unkeyed, is_unkeyed, swap, rounds, step, drawn, run, after};
+ghost use Rattle.rc4.specs.Answers.{keyed_answer, draw_answer, run_answer, run_out, apply_answer, apply_out, key_code, number, number_code, text_rows, numbered_rows, keyed_if, within_answer, within_out};
+ghost use Rattle.rc4.specs.Inner.{wrapped, first_cell, xors, OctetCells, Ready, Finished, Marked};
 
-use octets::pair;
+use answer::Refusal;
+use std::array;
 
 // The shortest key (01, "Lengths").
 pub const SHORTEST_KEY: usize = 1;
@@ -18,18 +20,11 @@ pub const LONGEST_KEY: usize = 256;
 const NUMBER: usize = 2;
 
 // The box and both indices. Any octets are a state.
-#[derive(Clone, Copy)]
+#[derive(Clone, Copy, PartialEq, Eq)]
 pub struct Rc4 {
     pub cells: [u8; 256],
     pub i: u8,
     pub j: u8,
-}
-
-// What a key gives.
-#[derive(Clone, Copy)]
-pub struct Keyed {
-    pub answer: u8,
-    pub state: Rc4,
 }
 
 // What a draw gives.
@@ -39,54 +34,33 @@ pub struct Drawn {
     pub state: Rc4,
 }
 
-// What a run gives beside the octets that it writes.
-#[derive(Clone, Copy)]
-pub struct Ran {
-    pub answer: u8,
-    pub state: Rc4,
-}
-
 impl Rc4 {
     // The state of a key of 1 to 256 octets.
-    pub fn keyed(key: &[u8]) -> Keyed
+    pub fn keyed(key: &[u8]) -> Result<Rc4, Refusal>
         ensures { result ≡ keyed_answer key.now }
     {
-        if SHORTEST_KEY <= key.len() && key.len() <= LONGEST_KEY {
-            let mut words = ascending();
-            key_schedule(key, &mut words);
-            let cells = narrow(&words);
-            let state = Rc4 { cells, i: 0, j: 0 };
-            Keyed {
-                answer: answer::DONE,
-                state,
-            }
-        } else {
-            let state = Rc4 {
-                cells: [0u8; 256],
-                i: 0,
-                j: 0,
-            };
-            Keyed {
-                answer: answer::SIZE,
-                state,
-            }
-        }
+        check_key(key)?;
+        let mut words = ascending();
+        key_schedule(key, &mut words);
+        Ok(Rc4 {
+            cells: narrow(&words),
+            i: 0,
+            j: 0,
+        })
     }
 
     // One draw.
     pub fn draw(self) -> Drawn
         ensures { result ≡ draw_answer self }
     {
-        let mut words = [0u32; 256];
-        let cells = self.cells;
-        widen(cells, &mut words);
-        let i = index(self.i);
-        let x = first_cell(&words, i);
-        let d = advance(&mut words, i, word(self.j), x);
+        let mut words = widen(&self.cells);
+        let i = usize::from(self.i);
+        let x = words[(i + 1) % 256];
+        let d = advance(&mut words, i, u32::from(self.j), x);
         let state = Rc4 {
             cells: narrow(&words),
-            i: octet(i + 1),
-            j: low(d.j),
+            i: self.i.wrapping_add(1),
+            j: (d.j % 256) as u8,
         };
         Drawn {
             octet: d.octet,
@@ -94,23 +68,14 @@ impl Rc4 {
         }
     }
 
-    // A text of up to 65,535 octets, xored with the draws, into the front of a lent buffer.
-    pub fn run(self, text: &[u8], out: &mut [u8]) -> Ran
+    // A text of up to 65,535 octets, xored with the draws, into the front of a lent buffer; the state after it. A refusal leaves the buffer as it
+    // was, and hands no state back: the caller still has its own, which was copied.
+    pub fn run(self, text: &[u8], out: &mut [u8]) -> Result<Rc4, Refusal>
         ensures { (result ≡ run_answer self text.now out.old)
             × (out.new ≡ run_out self text.now out.old) }
     {
-        let code = run_code(text, out.len());
-        if code != answer::DONE {
-            return Ran {
-                answer: code,
-                state: self,
-            };
-        }
-        let state = run_text(self, text, out);
-        Ran {
-            answer: answer::DONE,
-            state,
-        }
+        check_text(text, out.len())?;
+        Ok(run_text(self, text, out))
     }
 
     // The same with the box of a key where RC4 is keyed afresh, and only where the first two octets that come out are a number within bounds.
@@ -122,45 +87,27 @@ impl Rc4 {
         highest: u16,
         text: &[u8],
         out: &mut [u8],
-    ) -> Ran
+    ) -> Result<Rc4, Refusal>
         ensures { (result ≡ within_answer self fresh key.now lowest highest text.now out.old)
             × (out.new ≡ within_out self fresh key.now lowest highest text.now out.old) }
     {
-        let code = within_code(fresh, key, text, out.len());
-        if code != answer::DONE {
-            return Ran {
-                answer: code,
-                state: self,
-            };
-        }
-        let mut words = [0u32; 256];
-        keyed_words(self, fresh, key, &mut words);
-        let i = index(start(fresh, self.i));
-        let j = word(start(fresh, self.j));
-        let judged = words_within(&mut words, i, j, lowest, highest, text, out);
-        if judged.answer != answer::DONE {
-            return Ran {
-                answer: judged.answer,
-                state: self,
-            };
-        }
-        let state = Rc4 {
+        check_numbered(fresh, key, text, out.len())?;
+        let mut words = keyed_words(self, fresh, key);
+        let i = usize::from(start(fresh, self.i));
+        let j = u32::from(start(fresh, self.j));
+        let last = words_within(&mut words, i, j, lowest, highest, text, out)?;
+        Ok(Rc4 {
             cells: narrow(&words),
-            i: octet(i + text.len()),
-            j: low(judged.j),
-        };
-        Ran {
-            answer: answer::DONE,
-            state,
-        }
+            i: ((i + text.len()) % 256) as u8,
+            j: (last % 256) as u8,
+        })
     }
 
     // Whether the box is a permutation of 0 to 255.
     pub fn is_permutation(self) -> bool
         ensures { result ≡ permutation self.cells }
     {
-        let cells = self.cells;
-        all_marked(marked(cells))
+        marked(&self.cells) == [1; 256]
     }
 
     // The state that a key schedule starts from: 0 to 255 in order, both indices 0.
@@ -168,7 +115,7 @@ impl Rc4 {
         ensures { result ≡ unkeyed }
     {
         Rc4 {
-            cells: ascending_octets(),
+            cells: array::from_fn(|n| n as u8),
             i: 0,
             j: 0,
         }
@@ -178,164 +125,108 @@ impl Rc4 {
     pub fn is_unkeyed(self) -> bool
         ensures { result ≡ is_unkeyed self }
     {
-        if self.i != 0 {
-            return false;
-        }
-        if self.j != 0 {
-            return false;
-        }
-        let cells = self.cells;
-        in_order(cells)
+        self == Rc4::unkeyed()
     }
 }
 
 // RC4 keyed with a key, applied to a text, into the front of a lent buffer.
-pub fn apply(key: &[u8], text: &[u8], out: &mut [u8]) -> u8
-    ensures { (result ≡ apply_code key.now text.now out.old)
+pub fn apply(key: &[u8], text: &[u8], out: &mut [u8]) -> Result<(), Refusal>
+    ensures { (result ≡ apply_answer key.now text.now out.old)
         × (out.new ≡ apply_out key.now text.now out.old) }
 {
-    if no_key(key) {
-        return answer::SIZE;
-    }
-    let code = run_code(text, out.len());
-    if code != answer::DONE {
-        return code;
-    }
+    check_key(key)?;
+    check_text(text, out.len())?;
     let mut words = ascending();
     key_schedule(key, &mut words);
     run_words(&mut words, 0, 0, text, out);
-    answer::DONE
+    Ok(())
 }
 
 // The generator lent by reference: advances in place, and returns the octet drawn.
 pub fn draw_next(g: &mut Rc4) -> u8
     ensures { (result ≡ drawn g.old) × (g.new ≡ step g.old) }
 {
-    let s = *g;
-    let d = s.draw();
+    let d = g.draw();
     *g = d.state;
     d.octet
 }
 
-// Whether a key has no length that is allowed.
-fn no_key(key: &[u8]) -> bool
-    ensures { result ≡ outside shortest_key longest_key (length key.now) }
+// Refuses a key of a length that is not allowed.
+fn check_key(key: &[u8]) -> Result<(), Refusal>
+    ensures { result ≡ result_of (key_code key.now) tt }
 {
-    if key.len() < SHORTEST_KEY {
-        return true;
+    if key.len() < SHORTEST_KEY || LONGEST_KEY < key.len() {
+        return Err(Refusal::Size);
     }
-    LONGEST_KEY < key.len()
+    Ok(())
 }
 
-// The same where RC4 is keyed afresh; else no key is asked for.
-fn lacks_key(fresh: bool, key: &[u8]) -> bool
-    ensures { result ≡ fresh && outside shortest_key longest_key (length key.now) }
-{
-    if fresh {
-        return no_key(key);
-    }
-    false
-}
-
-// The number by the rows that a text and the length of a lent buffer decide.
-fn run_code(text: &[u8], room: usize) -> u8
-    ensures { result ≡ first_of (text_rows (length text.now) room) }
+// Refuses a text that is too long, and a lent buffer with no room for it.
+fn check_text(text: &[u8], room: usize) -> Result<(), Refusal>
+    ensures { result ≡ result_of (first_of (text_rows (length text.now) room)) tt }
 {
     if octets::LONGEST_TEXT < text.len() {
-        return answer::SIZE;
+        return Err(Refusal::Size);
     }
     if room < text.len() {
-        return answer::ROOM;
+        return Err(Refusal::Room);
     }
-    answer::DONE
+    Ok(())
 }
 
 // The same with a key where RC4 is keyed afresh, and a text that begins with a number.
-fn within_code(fresh: bool, key: &[u8], text: &[u8], room: usize) -> u8
-    ensures { result ≡ first_of (numbered_rows fresh key.now (length text.now) room) }
-{
-    if lacks_key(fresh, key) {
-        return answer::SIZE;
-    }
-    if text.len() < NUMBER {
-        return answer::SIZE;
-    }
-    run_code(text, room)
-}
-
-// The box of a key where RC4 is keyed afresh, else that of a state, over any box.
-fn keyed_words(state: Rc4, fresh: bool, key: &[u8], words: &mut [u32; 256])
-    requires { OctetCells words.old × (fresh ≡ true → 1 ≤ length key.now) }
-    ensures { (words.new ≡ (keyed_if state fresh key.now).cells) × OctetCells words.new }
+fn check_numbered(fresh: bool, key: &[u8], text: &[u8], room: usize) -> Result<(), Refusal>
+    ensures { result ≡ result_of (first_of (numbered_rows fresh key.now (length text.now) room)) tt }
 {
     if fresh {
-        *words = ascending();
-        key_schedule(key, words);
-        return;
+        check_key(key)?;
     }
-    let cells = state.cells;
-    widen(cells, words);
+    if text.len() < NUMBER {
+        return Err(Refusal::Size);
+    }
+    check_text(text, room)
+}
+
+// The box of a key where RC4 is keyed afresh, else that of a state.
+fn keyed_words(state: Rc4, fresh: bool, key: &[u8]) -> [u32; 256]
+    requires { fresh ≡ true → 1 ≤ length key.now }
+    ensures { (result ≡ (keyed_if state fresh key.now).cells) × OctetCells result }
+{
+    if fresh {
+        let mut words = ascending();
+        key_schedule(key, &mut words);
+        return words;
+    }
+    widen(&state.cells)
 }
 
 // An index of that box.
 fn start(fresh: bool, index: u8) -> u8
     ensures { result ≡ pick fresh 0 index }
 {
-    if fresh {
-        return 0;
-    }
-    index
+    if fresh { 0 } else { index }
 }
 
-// All rounds of a key over a box in place, sixteen in each turn. j is not wrapped mod 256 between them.
+// All rounds of a key over a box in place, sixteen in each turn: one in each takes half as long again. j is not wrapped mod 256 between them.
 fn key_schedule(key: &[u8], cells: &mut [u32; 256])
     requires { (1 ≤ length key.now) × (cells.old ≡ below 256) }
     ensures { (cells.new ≡ (rounds key.now 256).cells) × OctetCells cells.new }
 {
     let mut place = 0;
     let mut j = 0;
-    let mut i = 0;
-    while i < 256 {
-        let mut k = 0;
-        while k < 16 {
-            j = mix(cells, i + k, j, key[place]);
+    for turn in 0..16 {
+        for k in 0..16 {
+            j = mix(cells, 16 * turn + k, j, key[place]);
             place = next_place(place, key.len());
-            k += 1;
         }
-        i += 16;
     }
 }
 
-// The numbers 0 to 255, in order, sixteen in each turn.
+// The numbers 0 to 255, in order.
 fn ascending() -> [u32; 256]
     ensures { result ≡ below 256 }
 {
-    let mut cells = [0u32; 256];
-    let mut next = 0;
-    let mut n = 0;
-    while n < 256 {
-        let mut k = 0;
-        while k < 16 {
-            cells[n + k] = next;
-            next += 1;
-            k += 1;
-        }
-        n += 16;
-    }
-    cells
-}
-
-// The same numbers as octets.
-fn ascending_octets() -> [u8; 256]
-    ensures { result ≡ below 256 }
-{
-    let mut cells = [0u8; 256];
-    let mut n = 0;
-    while n < 256 {
-        cells[n] = octet(n);
-        n += 1;
-    }
-    cells
+    array::from_fn(|n| n as u32)
 }
 
 // One round of the key schedule: the next j, and two cells swapped.
@@ -344,9 +235,9 @@ fn mix(cells: &mut [u32; 256], i: usize, j: u32, k: u8) -> u32
     ensures { (result ≡ j + get_or cells.old i 0 + k) × (result ≤ j + 510)
         × (cells.new ≡ swap cells.old i (result % 256)) }
 {
-    let x = cell(cells, i);
-    let sum = j + x + word(k);
-    swap_cells(cells, i, x, place(sum));
+    let x = cells[i];
+    let sum = j + x + u32::from(k);
+    swap_cells(cells, i, x, (sum % 256) as usize);
     sum
 }
 
@@ -358,26 +249,24 @@ fn next_place(k: usize, n: usize) -> usize
     if k + 1 == n { 0 } else { k + 1 }
 }
 
-// A text within its limit, xored with the draws, into a buffer with room for it; the state after it. The cells are read behind the zeros,
-// which saves a copy.
+// A text within its limit, xored with the draws, into a buffer with room for it; the state after it.
 fn run_text(state: Rc4, text: &[u8], out: &mut [u8]) -> Rc4
     requires { (length text.now ≤ longest_text) × (length text.now ≤ length out.old) }
     ensures { (result ≡ after state text.now)
         × (out.new ≡ written (run state text.now) out.old) }
 {
-    let mut words = [0u32; 256];
-    let cells = state.cells;
-    widen(cells, &mut words);
-    let i = index(state.i);
-    let j = run_words(&mut words, i, word(state.j), text, out);
+    let mut words = widen(&state.cells);
+    let i = usize::from(state.i);
+    let j = run_words(&mut words, i, u32::from(state.j), text, out);
     Rc4 {
         cells: narrow(&words),
-        i: octet(i + text.len()),
-        j: low(j),
+        i: ((i + text.len()) % 256) as u8,
+        j: (j % 256) as u8,
     }
 }
 
 // Any text over a box in place; the next j, not wrapped mod 256. One octet at a time up to a place that is a multiple of eight.
+// The box and its indices go apart: as one struct, lent, 1,500 octets take an eighth longer.
 fn run_words(cells: &mut [u32; 256], i: usize, j: u32, text: &[u8], out: &mut [u8]) -> u32
     requires { Ready cells.old i j text.now out.old }
     ensures { Finished cells.old i j text.now out.old cells.new result out.new }
@@ -387,14 +276,7 @@ fn run_words(cells: &mut [u32; 256], i: usize, j: u32, text: &[u8], out: &mut [u
     run_rest(cells, i + m, next, &text[m..], &mut out[m..])
 }
 
-// The number answered, and the next j, not wrapped mod 256.
-#[derive(Clone, Copy)]
-struct Judged {
-    answer: u8,
-    j: u32,
-}
-
-// A text over a box in place, once the first two octets that come out are found to be a number within bounds.
+// A text over a box in place, once the first two octets that come out are found to be a number within bounds; the next j, not wrapped mod 256.
 fn words_within(
     cells: &mut [u32; 256],
     i: usize,
@@ -403,45 +285,28 @@ fn words_within(
     highest: u16,
     text: &[u8],
     out: &mut [u8],
-) -> Judged
+) -> Result<u32, Refusal>
     requires { Ready cells.old i j text.now out.old × (number ≤ length text.now) }
-    ensures { (result.answer ≡ number_code lowest highest (run (wrapped cells.old i j) text.now))
-        × (result.answer ≡ done → Finished cells.old i j text.now out.old cells.new result.j out.new)
-        × ((result.answer ≡ done → ⊥) → out.new ≡ out.old) }
+    ensures { MatchResult result
+        (λ last. (number_code lowest highest (run (wrapped cells.old i j) text.now) ≡ done) × Finished cells.old i j text.now out.old cells.new last out.new)
+        (λ refusal. (number_code lowest highest (run (wrapped cells.old i j) text.now) ≡ protocol) × (refusal ≡ Refusal.Protocol) × (out.new ≡ out.old)) }
 {
-    let mut first = [0u8; 2];
+    let mut first = [0; 2];
     let next = run_ones(cells, i, j, &text[..NUMBER], &mut first);
-    let number = pair(first[0], first[1]);
-    if beyond(number, lowest, highest) {
-        return Judged {
-            answer: answer::PROTOCOL,
-            j,
-        };
+    let number = u16::from_be_bytes(first);
+    if number < lowest || highest < number {
+        return Err(Refusal::Protocol);
     }
-    octets::copy(&first, out);
+    out[..NUMBER].copy_from_slice(&first);
     let last = run_words(cells, i + NUMBER, next, &text[NUMBER..], &mut out[NUMBER..]);
-    Judged {
-        answer: answer::DONE,
-        j: last,
-    }
-}
-
-// Whether a number lies outside bounds.
-fn beyond(number: u16, lowest: u16, highest: u16) -> bool
-    ensures { result ≡ outside lowest highest number }
-{
-    if number < lowest {
-        return true;
-    }
-    highest < number
+    Ok(last)
 }
 
 // How many of n octets come before the next place that is a multiple of eight.
 fn before_eights(i: usize, n: usize) -> usize
     ensures { (result ≤ n) × (result < n → (i + result) % 8 ≡ 0) }
 {
-    let m = (8 - i % 8) % 8;
-    if m < n { m } else { n }
+    n.min((8 - i % 8) % 8)
 }
 
 // A text from a place that is a multiple of eight: whole eights, then what is left.
@@ -460,17 +325,13 @@ fn run_eights(cells: &mut [u32; 256], i: usize, j: u32, text: &[u8], out: &mut [
     ensures { Finished cells.old i j text.now out.old cells.new result out.new }
 {
     let mut next = j;
-    let mut x = first_cell(cells, i);
-    let eights = text.len() / 8;
-    let mut k = 0;
-    while k < eights {
+    let mut x = cells[(i + 1) % 256];
+    for k in 0..text.len() / 8 {
         let n = 8 * k;
         let e = draw_eight(cells, (i + n) / 8 % 32 * 8, next, x);
         next = e.j;
         x = e.x;
-        let octets = e.octets;
-        xor_eight(&text[n..n + 8], octets, &mut out[n..n + 8]);
-        k += 1;
+        xor_eight(&text[n..n + 8], &e.octets, &mut out[n..n + 8]);
     }
     next
 }
@@ -481,13 +342,11 @@ fn run_ones(cells: &mut [u32; 256], i: usize, j: u32, text: &[u8], out: &mut [u8
     ensures { Finished cells.old i j text.now out.old cells.new result out.new }
 {
     let mut next = j;
-    let mut n = 0;
-    while n < text.len() {
-        let x = first_cell(cells, i + n);
+    for (n, octet) in text.iter().enumerate() {
+        let x = cells[(i + n + 1) % 256];
         let d = advance(cells, i + n, next, x);
         next = d.j;
-        out[n] = text[n] ^ d.octet;
-        n += 1;
+        out[n] = *octet ^ d.octet;
     }
     next
 }
@@ -507,16 +366,14 @@ fn draw_eight(cells: &mut [u32; 256], i: usize, j: u32, x: u32) -> Eight
         × (wrapped cells.new (i + 8) result.j ≡ after (wrapped cells.old i j) (replicate 8 0))
         × OctetCells cells.new × (result.j ≤ j + 2040) × (result.x ≡ first_cell cells.new (i + 8)) }
 {
-    let mut octets = [0u8; 8];
+    let mut octets = [0; 8];
     let mut next = j;
     let mut first = x;
-    let mut k = 0;
-    while k < 8 {
+    for k in 0..8 {
         let d = advance(cells, i + k, next, first);
         octets[k] = d.octet;
         next = d.j;
         first = d.x;
-        k += 1;
     }
     Eight {
         octets,
@@ -526,29 +383,12 @@ fn draw_eight(cells: &mut [u32; 256], i: usize, j: u32, x: u32) -> Eight
 }
 
 // Eight octets of text, xored with eight of keystream. All are read before one is stored: then one load and one store do it.
-fn xor_eight(text: &[u8], octets: [u8; 8], out: &mut [u8])
+fn xor_eight(text: &[u8], octets: &[u8; 8], out: &mut [u8])
     requires { (length text.now ≡ 8) × (length out.old ≡ 8) }
-    ensures { out.new ≡ xors text.now octets }
+    ensures { out.new ≡ xors text.now octets.now }
 {
-    let mut both = [0u8; 8];
-    let mut k = 0;
-    while k < 8 {
-        both[k] = text[k] ^ octets[k];
-        k += 1;
-    }
-    put_eight(&both, out);
-}
-
-// Eight octets into a buffer of eight.
-fn put_eight(octets: &[u8; 8], out: &mut [u8])
-    requires { (length octets.now ≡ 8) × (length out.old ≡ 8) }
-    ensures { out.new ≡ octets.now }
-{
-    let mut k = 0;
-    while k < 8 {
-        out[k] = octets[k];
-        k += 1;
-    }
+    let both: [u8; 8] = array::from_fn(|k| text[k] ^ octets[k]);
+    out.copy_from_slice(&both);
 }
 
 // The octet of a draw in place, the next j, not wrapped mod 256, and the cell that the next draw reads first.
@@ -568,26 +408,18 @@ fn advance(cells: &mut [u32; 256], i: usize, j: u32, x: u32) -> Advanced
 {
     let a = (i + 1) % 256;
     let sum = j + x;
-    let b = place(sum);
-    let y = cell(cells, b);
+    let b = (sum % 256) as usize;
+    let y = cells[b];
     swap_cells(cells, a, x, b);
-    let next = first_cell(cells, i + 1);
+    let next = cells[(i + 2) % 256];
     Advanced {
-        octet: low(cell(cells, place(y + x))),
+        octet: (cells[((y + x) % 256) as usize] % 256) as u8,
         j: sum,
         x: next,
     }
 }
 
-// The cell that a draw reads first.
-fn first_cell(cells: &[u32; 256], i: usize) -> u32
-    requires { OctetCells cells.now × (i < 2 ^ 33) }
-    ensures { result ≡ first_cell cells.now i }
-{
-    cell(cells, (i + 1) % 256)
-}
-
-// The cell x at a and the cell at b change places.
+// The cell x at a and the cell at b change places: `swap` reads x once more, which takes a tenth longer.
 fn swap_cells(cells: &mut [u32; 256], a: usize, x: u32, b: usize)
     requires { (a < 256) × (b < 256) × (x ≡ get_or cells.old a 0) }
     ensures { cells.new ≡ swap cells.old a b }
@@ -597,123 +429,27 @@ fn swap_cells(cells: &mut [u32; 256], a: usize, x: u32, b: usize)
 }
 
 // A box of octets as one of words, which is faster: an octet that is stored and soon loaded again waits.
-fn widen(cells: [u8; 256], words: &mut [u32; 256])
-    requires { OctetCells words.old }
-    ensures { (words.new ≡ cells) × OctetCells words.new }
+fn widen(cells: &[u8; 256]) -> [u32; 256]
+    ensures { (result ≡ cells.now) × OctetCells result }
 {
-    let mut n = 0;
-    while n < 256 {
-        words[n] = word(cells[n]);
-        n += 1;
-    }
+    array::from_fn(|n| u32::from(cells[n]))
 }
 
-// A box of words as one of octets, sixteen cells in each turn: then sixteen octets are stored at once.
+// A box of words as one of octets.
 fn narrow(words: &[u32; 256]) -> [u8; 256]
     requires { OctetCells words.now }
     ensures { result ≡ words.now }
 {
-    let mut cells = [0u8; 256];
-    let mut n = 0;
-    while n < 256 {
-        let mut k = 0;
-        while k < 16 {
-            cells[n + k] = low(cell(words, n + k));
-            k += 1;
-        }
-        n += 16;
-    }
-    cells
+    array::from_fn(|n| (words[n] % 256) as u8)
 }
 
-// An octet as a word.
-fn word(x: u8) -> u32
-    ensures { (result ≡ x) × (result < 256) }
+// A mark for each number that stands in one of the cells, an octet each: `==` takes twice as long over bools.
+fn marked(cells: &[u8; 256]) -> [u8; 256]
+    ensures { Marked cells.now result }
 {
-    x as u32
-}
-
-// A cell.
-fn cell(cells: &[u32; 256], k: usize) -> u32
-    requires { OctetCells cells.now × (k < 256) }
-    ensures { (result ≡ get_or cells.now k 0) × (result < 256) }
-{
-    cells[k]
-}
-
-// A word mod 256, as a place in the box.
-fn place(x: u32) -> usize
-    ensures { (result ≡ x % 256) × (result < 256) }
-{
-    (x % 256) as usize
-}
-
-// A word mod 256.
-fn low(x: u32) -> u8
-    ensures { result ≡ x % 256 }
-{
-    (x % 256) as u8
-}
-
-// An octet as an index.
-fn index(x: u8) -> usize
-    ensures { (result ≡ x) × (result < 256) }
-{
-    x as usize
-}
-
-// A number mod 256.
-fn octet(x: usize) -> u8
-    ensures { result ≡ x % 256 }
-{
-    (x % 256) as u8
-}
-
-// A mark for each number that stands in one of the cells.
-fn marked(cells: [u8; 256]) -> [u8; 256]
-    ensures { Marked cells result }
-{
-    let mut marks = [0u8; 256];
-    let mut i = 0;
-    while i < 256 {
-        marks[index(cells[i])] = 1;
-        i += 1;
+    let mut marks = [0; 256];
+    for x in cells {
+        marks[usize::from(*x)] = 1;
     }
     marks
-}
-
-// Whether every number is marked.
-fn all_marked(marks: [u8; 256]) -> bool
-    ensures { Tells marks result }
-{
-    let mut all = 1u8;
-    let mut n = 0;
-    while n < 256 {
-        all = all & marks[n];
-        n += 1;
-    }
-    all == 1
-}
-
-// Whether the cells are the numbers 0 to 255, in order.
-fn in_order(cells: [u8; 256]) -> bool
-    ensures { result ≡ in_order 0 cells }
-{
-    let mut same = true;
-    let mut n = 0;
-    while n < 256 {
-        same = still(same, cells[n], octet(n));
-        n += 1;
-    }
-    same
-}
-
-// What is found of all before, and of two octets that are to be the same.
-fn still(found: bool, a: u8, b: u8) -> bool
-    ensures { result ≡ eqb a b && found }
-{
-    if a != b {
-        return false;
-    }
-    found
 }

@@ -4,9 +4,10 @@
 ghost use Rattle.std.specs.Prelude.{◌≡◌, ◌<◌, ◌≤◌, length};
 ghost use Rattle.rc4.specs.Answers.{draw_answer};
 
+use answer::number_of;
 use rc4::{Drawn, Rc4};
-use std::io;
 use std::io::{BufWriter, Write};
+use std::{array, io};
 
 // How far the vectors reach into the keystream.
 const REACH: usize = 4112;
@@ -22,6 +23,13 @@ const HASHED: [u8; 32] = [
     0x1A, 0xDA, 0x31, 0xD5, 0xCF, 0x68, 0x82, 0x21, 0xC1, 0x09, 0x16, 0x39, 0x08, 0xEB, 0xE5, 0x1D,
     0xEB, 0xB4, 0x62, 0x27, 0xC6, 0xCC, 0x8B, 0x37, 0x64, 0x19, 0x10, 0x83, 0x32, 0x22, 0x77, 0x2A,
 ];
+
+// What is shown of the state where a key is refused.
+const ZEROS: Rc4 = Rc4 {
+    cells: [0; 256],
+    i: 0,
+    j: 0,
+};
 
 // Prints them to standard output, by blocks.
 fn main(rt: HostRuntime) -> io::Result<()> {
@@ -61,19 +69,24 @@ fn vectors<W: Write>(writer: &mut W, n: usize) -> io::Result<()>
 // The keystream of a key at every offset that is printed.
 fn vector<W: Write>(writer: &mut W, label: &[u8], bits: usize, key: &[u8]) -> io::Result<()> {
     let k = Rc4::keyed(key);
-    report::numbered(writer, label, bits, k.answer, key)?;
-    let mut out = [0u8; REACH];
-    let s = k.state;
-    let r = s.run(&[0u8; REACH], &mut out);
-    offsets(writer, r.answer, &out)?;
+    report::numbered(writer, label, bits, number_of(&k), key)?;
+    let mut out = [0; REACH];
+    let r = k.unwrap_or(ZEROS).run(&[0; REACH], &mut out);
+    offsets(writer, number_of(&r), &out)?;
     applied(writer, key)
 }
 
 // The keystream by one call, at the last offset.
 fn applied<W: Write>(writer: &mut W, key: &[u8]) -> io::Result<()> {
     let mut out = [0u8; REACH];
-    let answer = rc4::apply(key, &[0u8; REACH], &mut out);
-    report::numbered(writer, b"in one call, offset", 4096, answer, &out[4096..])
+    let r = rc4::apply(key, &[0u8; REACH], &mut out);
+    report::numbered(
+        writer,
+        b"in one call, offset",
+        4096,
+        number_of(&r),
+        &out[4096..],
+    )
 }
 
 // A keystream about each offset.
@@ -119,20 +132,22 @@ fn box_of<W: Write>(writer: &mut W, n: usize) -> io::Result<()>
 {
     let key = scattered();
     let k = Rc4::keyed(&key[0..n]);
-    let s = k.state;
-    let cells = s.cells;
-    report::numbered(writer, b"key, octets", n, k.answer, &cells)
+    report::numbered(
+        writer,
+        b"key, octets",
+        n,
+        number_of(&k),
+        &k.unwrap_or(ZEROS).cells,
+    )
 }
 
 // A key of 257 octets, which repeat after 128.
 fn scattered() -> [u8; 257] {
-    let mut key = [0u8; 257];
-    let mut x: usize = 7;
-    let mut n = 0;
-    while n < 257 {
-        key[n] = x as u8;
-        x = (x * 5 + 2) % 256;
-        n += 1;
+    let mut key = [0; 257];
+    let mut x: u8 = 7;
+    for octet in &mut key {
+        *octet = x;
+        x = x.wrapping_mul(5).wrapping_add(2);
     }
     key
 }
@@ -146,8 +161,7 @@ enum Form {
 
 // Draws from a key's box, and from a box made by hand that is no permutation.
 fn draws<W: Write>(writer: &mut W) -> io::Result<()> {
-    let k = Rc4::keyed(&COUNTED[..5]);
-    let s = k.state;
+    let s = Rc4::keyed(&COUNTED[..5]).unwrap_or(ZEROS);
     both_draws(writer, b"draws from a key", s)?;
     let mut cells = s.cells;
     cells[0] = 9;
@@ -177,14 +191,11 @@ fn show_draws<W: Write>(writer: &mut W, label: &[u8], form: Form, state: Rc4) ->
 // Sixteen draws, one at a time.
 fn sixteen_draws(form: Form, state: Rc4) -> [u8; 16] {
     let mut s = state;
-    let mut octets = [0u8; 16];
-    let mut n = 0;
-    while n < 16 {
+    let mut octets = [0; 16];
+    for octet in &mut octets {
         let d = one_draw(form, s);
-        octets[n] = d.octet;
-        let next = d.state;
-        s = next;
-        n += 1;
+        *octet = d.octet;
+        s = d.state;
     }
     octets
 }
@@ -208,30 +219,22 @@ fn drawn_in_place(state: Rc4) -> Drawn
 
 // Whether boxes are permutations: a key's, one after a draw, one of zeros, and a key's with each number missing in turn.
 fn permutations<W: Write>(writer: &mut W) -> io::Result<()> {
-    let k = Rc4::keyed(&COUNTED[..16]);
-    let s = k.state;
+    let s = Rc4::keyed(&COUNTED[..16]).unwrap_or(ZEROS);
     report::line(writer, b"box of a key, a permutation", told(s), b"")?;
     let d = s.draw();
     report::line(writer, b"after a draw", told(d.state), b"")?;
-    let refused = Rc4::keyed(b"");
-    report::line(writer, b"box of zeros", told(refused.state), b"")?;
+    report::line(writer, b"box of zeros", told(ZEROS), b"")?;
     report::line(writer, b"each number missing", 0, &each_missing(s))
 }
 
 // 1 for a permutation, and else 0.
 fn told(state: Rc4) -> u8 {
-    if state.is_permutation() { 1 } else { 0 }
+    u8::from(state.is_permutation())
 }
 
 // What is told of the boxes in which one cell holds what the next one does.
 fn each_missing(state: Rc4) -> [u8; 256] {
-    let mut tells = [0xEEu8; 256];
-    let mut n = 0;
-    while n < 256 {
-        tells[n] = told(with_repeated(state, n));
-        n += 1;
-    }
-    tells
+    array::from_fn(|n| told(with_repeated(state, n)))
 }
 
 // A box in which cell n holds what the next one does.
@@ -251,43 +254,33 @@ fn unkeyed<W: Write>(writer: &mut W) -> io::Result<()> {
     show_unkeyed(writer, b"with another j", with_indices(s, 0, 128))?;
     show_unkeyed(writer, b"with two cells exchanged", with_last_exchanged(s))?;
     show_unkeyed(writer, b"with a repeated cell", with_repeated(s, 0))?;
-    let k = Rc4::keyed(&COUNTED[..16]);
-    show_unkeyed(writer, b"state of a key", k.state)?;
-    let refused = Rc4::keyed(b"");
-    show_unkeyed(writer, b"state of zeros", refused.state)
+    show_unkeyed(
+        writer,
+        b"state of a key",
+        Rc4::keyed(&COUNTED[..16]).unwrap_or(ZEROS),
+    )?;
+    show_unkeyed(writer, b"state of zeros", ZEROS)
 }
 
 // Prints 1 for the unkeyed state and else 0, and a state's cells and indices.
 fn show_unkeyed<W: Write>(writer: &mut W, label: &[u8], state: Rc4) -> io::Result<()> {
-    let cells = state.cells;
-    let mut octets = [0u8; 258];
-    octets::copy(&cells, &mut octets);
-    octets::copy_at(&[state.i, state.j], 256, &mut octets);
-    report::line(
-        writer,
-        label,
-        if state.is_unkeyed() { 1 } else { 0 },
-        &octets,
-    )
+    let mut octets = [0; 258];
+    octets[..256].copy_from_slice(&state.cells);
+    octets[256] = state.i;
+    octets[257] = state.j;
+    report::line(writer, label, u8::from(state.is_unkeyed()), &octets)
 }
 
 // A state with other indices.
 fn with_indices(state: Rc4, i: u8, j: u8) -> Rc4 {
-    let cells = state.cells;
-    Rc4 { cells, i, j }
+    Rc4 { i, j, ..state }
 }
 
 // A state with its last two cells exchanged.
 fn with_last_exchanged(state: Rc4) -> Rc4 {
     let mut cells = state.cells;
-    let last = cells[255];
-    cells[255] = cells[254];
-    cells[254] = last;
-    Rc4 {
-        cells,
-        i: state.i,
-        j: state.j,
-    }
+    cells.swap(254, 255);
+    Rc4 { cells, ..state }
 }
 
 // Lent buffers longer than the text, as long, and one octet too short; an empty text.
@@ -303,8 +296,7 @@ fn buffers<W: Write>(writer: &mut W) -> io::Result<()> {
 fn buffer<W: Write>(writer: &mut W, label: &[u8], n: usize, room: usize) -> io::Result<()>
     requires { (n ≤ 32) × (room ≤ 32) }
 {
-    let k = Rc4::keyed(&COUNTED[..16]);
-    let s = k.state;
+    let s = Rc4::keyed(&COUNTED[..16]).unwrap_or(ZEROS);
     let after = ran(writer, label, s, 0, n, room)?;
     show_draws(writer, b"draws after it", Form::ByValue, after)
 }
@@ -333,8 +325,8 @@ fn shown<W: Write>(
     out: &mut [u8],
 ) -> io::Result<Rc4> {
     let r = s.run(text, out);
-    report::line(writer, label, r.answer, out)?;
-    Ok(r.state)
+    report::line(writer, label, number_of(&r), out)?;
+    Ok(r.unwrap_or(s))
 }
 
 // Texts that are taken only where they begin with a number within bounds; 0x9BC5 comes out under the key of 128 bits.
@@ -463,8 +455,7 @@ fn held(fresh: bool) -> Rc4 {
     if fresh {
         return Rc4::unkeyed();
     }
-    let k = Rc4::keyed(&COUNTED[..16]);
-    k.state
+    Rc4::keyed(&COUNTED[..16]).unwrap_or(ZEROS)
 }
 
 // Prints what is made of it.
@@ -480,14 +471,13 @@ fn show_judged<W: Write>(
     out: &mut [u8],
 ) -> io::Result<()> {
     let r = s.run_within(fresh, key, lowest, highest, text, out);
-    report::line(writer, label, r.answer, out)?;
-    show_draws(writer, b"draws after it", Form::ByValue, r.state)
+    report::line(writer, label, number_of(&r), out)?;
+    show_draws(writer, b"draws after it", Form::ByValue, r.unwrap_or(s))
 }
 
 // Texts at and beyond the limit of their length.
 fn lengths<W: Write>(writer: &mut W) -> io::Result<()> {
-    let k = Rc4::keyed(&COUNTED[..16]);
-    let s = k.state;
+    let s = Rc4::keyed(&COUNTED[..16]).unwrap_or(ZEROS);
     let t = long(writer, s, 65535, 65536)?;
     let u = long(writer, t, 65536, 65536)?;
     let v = long(writer, u, 65536, 16)?;
@@ -514,14 +504,19 @@ fn last_sixteen<W: Write>(
     requires { 16 ≤ length out.old }
 {
     let r = s.run(text, out);
-    report::numbered(writer, b"text, octets", n, r.answer, &out[out.len() - 16..])?;
-    Ok(r.state)
+    report::numbered(
+        writer,
+        b"text, octets",
+        n,
+        number_of(&r),
+        &out[out.len() - 16..],
+    )?;
+    Ok(r.unwrap_or(s))
 }
 
 // A text in one run, and cut into two runs on one box.
 fn parts<W: Write>(writer: &mut W) -> io::Result<()> {
-    let k = Rc4::keyed(&HASHED);
-    let s = k.state;
+    let s = Rc4::keyed(&HASHED).unwrap_or(ZEROS);
     ran(writer, b"text in one run", s, 0, 32, 32)?;
     let t = ran(writer, b"its first 13 octets", s, 0, 13, 13)?;
     ran(writer, b"the rest of them", t, 13, 32, 19)?;
@@ -530,9 +525,8 @@ fn parts<W: Write>(writer: &mut W) -> io::Result<()> {
 
 // A text run twice from one state.
 fn twice<W: Write>(writer: &mut W, once: &mut [u8], again: &mut [u8]) -> io::Result<()> {
-    let k = Rc4::keyed(&HASHED);
-    let s = k.state;
-    s.run(&COUNTED, once);
+    let s = Rc4::keyed(&HASHED).unwrap_or(ZEROS);
+    let _ = s.run(&COUNTED, once);
     shown(writer, b"text run twice", s, once, again)?;
     Ok(())
 }

@@ -1,13 +1,26 @@
 // What the sample programs print: a line for each call, with the number it answered and its octets in hex.
 #![tactic(auto)]
 
-use std::io;
 use std::io::Write;
+use std::{fmt, io};
+
+// Octets that are printed in hex.
+#[derive(Clone, Copy)]
+struct Hex<'a>(&'a [u8]);
+
+impl fmt::Display for Hex<'_> {
+    fn fmt<W: fmt::Write>(&self, f: &mut fmt::Formatter<W>) -> fmt::Result {
+        for octet in self.0 {
+            write!(f, "{octet:02x}")?;
+        }
+        Ok(())
+    }
+}
 
 // Writes one line: the label, the number answered, and the octets.
 pub fn line<W: Write>(out: &mut W, label: &[u8], answer: u8, octets: &[u8]) -> io::Result<()> {
     out.write_all(label)?;
-    answered(out, answer, octets)
+    writeln!(out, " {answer} {}", Hex(octets))
 }
 
 // The same with a number behind the label.
@@ -19,15 +32,5 @@ pub fn numbered<W: Write>(
     octets: &[u8],
 ) -> io::Result<()> {
     out.write_all(label)?;
-    write!(out, " {n}")?;
-    answered(out, answer, octets)
-}
-
-// The number answered, the octets, and the line's end.
-fn answered<W: Write>(out: &mut W, answer: u8, octets: &[u8]) -> io::Result<()> {
-    write!(out, " {answer} ")?;
-    for octet in octets {
-        write!(out, "{octet:02x}")?;
-    }
-    writeln!(out)
+    writeln!(out, " {n} {answer} {}", Hex(octets))
 }

@@ -1,37 +1,36 @@
 -- What the proofs of HMAC cite: the key's block, a block xored octet by octet, a digest that goes on behind a block.
-use mathlib.Core.Path.{◌≡◌, refl, ◌∙◌}
-use mathlib.Core.List.{List, ◌++◌, map-append, append_assoc, append-nil}
-use Prim.Native.Nat.{ℕ, suc, ◌+◌, ◌≤◌, ◌<◌}
-use native.Mathlib.Numerals.{add-one}
-use native.Mathlib.Omega.{arith}
+use Rattle.std.proofs.Common.{◌≡◌, sym, ap, ◌∙◌, List, ℕ, suc, ◌+◌, ◌*◌, ◌≤◌, ◌<◌, ◌++◌, append_assoc, length, take, drop, get_or, set, replicate, add-one, lt-ltb, le-ltb, Ok, arith}
+use mathlib.Core.List.{map-append, append-nil}
 use lib.Bits.{bit_xor}
-use lib.ListN.{length, take, drop, get_or, set, replicate, length-map}
+use lib.ListN.{length-map}
 use lib.Seq.{take_all, take-suc, drop-cons, set_at, length-take-le, take-length, drop-length, get_or_at}
-use borrow.Author.Tests.{lt-ltb, le-ltb}
+use Rattle.std.specs.Prelude.{Result}
+use Rattle.answer.specs.declared.Refusal.{Refusal}
+use Rattle.answer.specs.Laws.{ok_only}
 use Rattle.octets.specs.Octets.{written, longest_text}
-use Rattle.octets.specs.declared.Order.TheVariants.{HighestFirst}
-use Rattle.blocks.specs.Inner.{closed}
-use Rattle.blocks.specs.Laws.{hashed_behind_one}
 use Rattle.octets.specs.Laws.{drop_zeros}
-use Rattle.sha256.specs.Sha256.{compress, initial, octets_in, sha256}
-use Rattle.sha256.specs.Inner.{refused_digest}
+use Rattle.octets.specs.declared.Order.TheVariants.{HighestFirst}
+use Rattle.blocks.specs.Inner.{closed_answer}
+use Rattle.blocks.specs.Laws.{hashed_behind_one}
+use Rattle.sha256.specs.Sha256.{compress, initial, octets_in, sha256, sha256_answer}
+use Rattle.sha256.specs.Inner.{block_answer, behind_answer}
 use Rattle.sha256.specs.Hmac.{key_block, xored, ipad, opad, hmac, hmac_answer}
+use Rattle.sha256.specs.Laws.{sha256_length}
 use Rattle.sha256.specs.declared.State.{State}
-use Rattle.sha256.specs.declared.Digest.{Digest}
 
--- a key copied into zeros
-pub key_short : {b : List ℕ} (key : List ℕ) → b ≡ written (take 64 key) (replicate 64 0) → length key ≤ 64 → b ≡ key_block key
-unfolding key_block
-key_short key e h = e ∙ rw (take_all 64 key h, drop_zeros, le-ltb 64 (length key) h)
+-- a key copied into zeros, or its digest
+pub key_short : {b : List ℕ} (key : List ℕ) → b ≡ written (take 64 key) (replicate 64 0) → length key ≤ 64 → Ok b ≡ block_answer key
+unfolding block_answer key_block
+key_short key e h =
+    let short : length key ≤ longest_text = omega arith in
+    rw (e, le-ltb longest_text (length key) short, take_all 64 key h, drop_zeros, le-ltb 64 (length key) h)
 
-length_sha256 : (m : List ℕ) → length (sha256 m) ≡ 32
-unfolding sha256
-length_sha256 m = refl
-
-pub key_long : {b d : List ℕ} (key : List ℕ) → d ≡ sha256 key → b ≡ written (take 64 d) (replicate 64 0) → 64 < length key → b ≡ key_block key
-unfolding key_block
+pub key_long : {b d : List ℕ} (key : List ℕ) → Ok d ≡ sha256_answer key → b ≡ written (take 64 d) (replicate 64 0) → 64 < length key → Ok b ≡ block_answer key
+unfolding block_answer key_block sha256_answer
 key_long key ed e h =
-    e ∙ rw (ed, take_all 64 (sha256 key) (omega (arith, length_sha256 key)), drop_zeros, lt-ltb 64 (length key) h)
+    let (none, same) = ok_only _ _ (sym ed) in
+    rw
+    (none, e, ← same, take_all 64 (sha256 key) (omega (arith, sha256_length key)), drop_zeros, lt-ltb 64 (length key) h)
 
 -- one octet more is xored
 pub xored_more : {out : List ℕ} (pad : ℕ) (block : List ℕ) (i : ℕ) → out ≡ xored pad (take i block) ++ drop i block → i < length block
@@ -48,22 +47,18 @@ xored_all pad block i e h = e ∙ rw (h, take-length, drop-length, append-nil)
 
 -- a digest that goes on behind a block
 pub behind : {i h r : State} {o : List ℕ} (block text : List ℕ) → length block ≡ 64 → i ≡ initial → h ≡ compress i block
-    → r ≡ closed compress HighestFirst h 64 text → o ≡ octets_in r → o ≡ sha256 (block ++ text)
-unfolding sha256
-behind block text l ei eh er eo = rw (hashed_behind_one compress HighestFirst initial block text l, ← ei, ← eh, ← er) eo
+    → Ok r ≡ closed_answer compress HighestFirst h (64 * 1) text → o ≡ octets_in r → Ok o ≡ behind_answer block text
+unfolding behind_answer sha256 closed_answer
+behind block text l ei eh er eo =
+    let (none, same) = ok_only _ _ (sym er) in
+    rw (none, eo, ← same, eh, ei, hashed_behind_one compress HighestFirst initial block text l)
 
--- the ways out of the call
-pub key_too_long : {r : Digest} (key text : List ℕ) → longest_text < length key → r ≡ refused_digest → r ≡ hmac_answer key text
-unfolding hmac_answer
-key_too_long key text h e = rw (lt-ltb longest_text (length key) h) e
-
-pub text_too_long : {r : Digest} (key text : List ℕ) → length key ≤ longest_text → longest_text < length text → r ≡ refused_digest → r ≡ hmac_answer key text
-unfolding hmac_answer
-text_too_long key text hk h e = rw (le-ltb longest_text (length key) hk, lt-ltb longest_text (length text) h) e
-
-pub coded : {b p q inner o : List ℕ} (key text : List ℕ) → b ≡ key_block key → p ≡ xored ipad b → inner ≡ sha256 (p ++ text) → q ≡ xored opad b
-    → o ≡ sha256 (q ++ inner) → length key ≤ longest_text → length text ≤ longest_text
-    → ◌≡◌ {A = Digest} (record { answer = 0; octets = o }) (hmac_answer key text)
-unfolding hmac_answer hmac
-coded key text eb ep ei eq eo hk ht =
-    rw (eo, eq, ei, ep, eb, le-ltb longest_text (length key) hk, le-ltb longest_text (length text) ht)
+-- the code of a key and a text
+pub coded : {b p q inner : List ℕ} {r : Result (List ℕ) Refusal} (key text : List ℕ) → Ok b ≡ block_answer key → p ≡ xored ipad b
+    → Ok inner ≡ behind_answer p text → q ≡ xored opad b → r ≡ behind_answer q inner → r ≡ hmac_answer key text
+unfolding hmac_answer hmac block_answer behind_answer
+coded {b} {p} {q} {inner} key text eb ep ei eq er =
+    let (none, block) = ok_only _ _ (sym eb) in
+    let (none', digest) = ok_only _ _ (sym ei) in
+    let short : length inner ≤ longest_text = omega (arith, ap length digest, sha256_length (p ++ text)) in
+    rw (er, le-ltb longest_text (length inner) short, none', none, eq, ← digest, ep, ← block)

@@ -1,10 +1,10 @@
 -- HMAC over SHA-256, as RFC 2104, section 2, defines it: B is 64.
-use Rattle.std.specs.Prelude.{List, [], ◌∷◌, ◌++◌, map, ℕ, ◌-◌, ltb, length, replicate}
+use Rattle.std.specs.Prelude.{List, [], ◌∷◌, ◌++◌, map, ℕ, ◌-◌, ltb, length, replicate, Result}
 use Rattle.std.specs.Int.Bits.{bit_xor}
-use Rattle.answer.specs.Answer.{size, pick, first_of, on_done}
+use Rattle.answer.specs.declared.Refusal.{Refusal}
+use Rattle.answer.specs.Answer.{size, pick, first_of, result_of}
 use Rattle.octets.specs.Octets.{longest_text}
 use Rattle.sha256.specs.Sha256.{sha256}
-use Rattle.sha256.specs.declared.Digest.{Digest}
 
 -- the key in B octets: hashed first where it is longer, then zeros at its end
 abbrev pub used_key : List ℕ → List ℕ
@@ -31,6 +31,6 @@ hmac key text = sha256 (xored opad (key_block key) ++ sha256 (xored ipad (key_bl
 abbrev pub hmac_code : (key text : List ℕ) → ℕ
 hmac_code key text = first_of ((size, ltb longest_text (length key)) ∷ (size, ltb longest_text (length text)) ∷ [])
 
--- the answer to a key and a text of any lengths; a refused one has zeros
-unfoldable pub hmac_answer : (key text : List ℕ) → Digest
-hmac_answer key text = record { answer = hmac_code key text; octets = on_done (hmac_code key text) (hmac key text) (replicate 32 0) }
+-- the answer to a key and a text of any lengths
+unfoldable pub hmac_answer : (key text : List ℕ) → Result (List ℕ) Refusal
+hmac_answer key text = result_of (hmac_code key text) (hmac key text)

@@ -3,3 +3,5 @@ pub mod Sha256
 pub mod Hmac
 -- What only private functions promise.
 pub mod Inner
+-- Laws, for callers.
+pub mod Laws

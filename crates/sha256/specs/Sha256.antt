@@ -1,13 +1,13 @@
 -- SHA-256, as FIPS 180-4 defines it.
-use Rattle.std.specs.Prelude.{List, [], ◌∷◌, ℕ, ◌-◌, ◌/◌, ◌^◌, ltb, length, get_or, replicate}
+use Rattle.std.specs.Prelude.{List, [], ◌∷◌, ℕ, ◌-◌, ◌/◌, ◌^◌, ltb, length, get_or, Result}
 use Rattle.std.specs.Int.Bits.{bit_and, bit_xor}
-use Rattle.answer.specs.Answer.{size, first_of, on_done}
+use Rattle.answer.specs.declared.Refusal.{Refusal}
+use Rattle.answer.specs.Answer.{size, first_of, result_of}
 use Rattle.octets.specs.declared.Order.TheVariants.{HighestFirst}
 use Rattle.octets.specs.Octets.{words_of, longest_text}
 use Rattle.octets.specs.Words.{◌⊞◌, rotr, complement}
 use Rattle.blocks.specs.Blocks.{schedule, next_word, rounds, hashed}
 use Rattle.sha256.specs.declared.State.{State}
-use Rattle.sha256.specs.declared.Digest.{Digest}
 
 -- 4.1.2: the functions
 abbrev pub ch : ℕ → ℕ → ℕ → ℕ
@@ -110,6 +110,6 @@ sha256 m = octets_in (hashed compress HighestFirst initial m)
 abbrev pub sha256_code : List ℕ → ℕ
 sha256_code m = first_of ((size, ltb longest_text (length m)) ∷ [])
 
--- the answer to a text of any length; a refused one has zeros
-unfoldable pub sha256_answer : List ℕ → Digest
-sha256_answer m = record { answer = sha256_code m; octets = on_done (sha256_code m) (sha256 m) (replicate 32 0) }
+-- the answer to a text of any length
+unfoldable pub sha256_answer : List ℕ → Result (List ℕ) Refusal
+sha256_answer m = result_of (sha256_code m) (sha256 m)

@@ -1,18 +1,17 @@
 // SHA-256 (FIPS 180-4) and HMAC over it (RFC 2104) of lent texts.
-#![tactic(auto)]
+#![tactic(auto, unfolding(crate::specs::Sha256::sha256_answer, crate::specs::Sha256::sha256, crate::specs::Hmac::hmac_answer, crate::specs::Inner::block_answer, crate::specs::Inner::behind_answer, blocks::specs::Inner::closed_answer))]
 
 mod hmac;
 
-ghost use Rattle.std.specs.Prelude.{◌≡◌, ◌+◌, ◌*◌, ◌%◌, ◌<◌, ◌≤◌, length};
-ghost use Rattle.blocks.specs.Blocks.{next_word, schedule as words, rounds, absorbed as after_blocks};
-ghost use Rattle.blocks.specs.Inner.{closed as closed_by};
+ghost use Rattle.std.specs.Prelude.{◌≡◌, ◌*◌, ◌<◌, ◌≤◌};
+ghost use Rattle.blocks.specs.Blocks.{next_word, schedule as words, rounds};
 ghost use Rattle.octets.specs.declared.Order.TheVariants.{HighestFirst};
-ghost use Rattle.octets.specs.Octets.{word_be, longest_text};
-ghost use Rattle.sha256.specs.Sha256.{big_sigma, small_sigma, k as constants, initial as initial_value, late_word, round as round_of, added as sums, compress as compressed, octets_in, sha256_answer};
-ghost use Rattle.sha256.specs.Inner.{refused_digest};
+ghost use Rattle.sha256.specs.Sha256.{ch, maj, big_sigma, small_sigma, initial as initial_value, late_word, round as round_of, added as sums, compress as compressed, octets_in, sha256_answer};
 
+use answer::Refusal;
+use blocks::BlockState;
 pub use hmac::hmac_sha256;
-use octets::{LONGEST_TEXT, Order, add, rotr};
+use octets::Order;
 
 // 4.2.2: the constants.
 const K: [u32; 64] = [
@@ -25,13 +24,6 @@ const K: [u32; 64] = [
     0x19a4c116, 0x1e376c08, 0x2748774c, 0x34b0bcb5, 0x391c0cb3, 0x4ed8aa4a, 0x5b9cca4f, 0x682e6ff3,
     0x748f82ee, 0x78a5636f, 0x84c87814, 0x8cc70208, 0x90befffa, 0xa4506ceb, 0xbef9a3f7, 0xc67178f2,
 ];
-
-// The number answered, and the digest; zeros where it is refused.
-#[derive(Clone, Copy)]
-pub struct Digest {
-    pub answer: u8,
-    pub octets: [u8; 32],
-}
 
 // The hash value, and the working variables of a block's rounds.
 #[derive(Clone, Copy)]
@@ -46,95 +38,41 @@ struct State {
     h: u32,
 }
 
-// The digest of a text of 0 to 65,535 octets; a longer one is refused with 3.
-pub fn sha256(text: &[u8]) -> Digest
+// The digest of a text of 0 to 65,535 octets; a longer one is refused.
+pub fn sha256(text: &[u8]) -> Result<[u8; 32], Refusal>
     ensures { result ≡ sha256_answer text.now }
 {
-    if LONGEST_TEXT < text.len() {
-        return refused();
+    Ok(octets_in(blocks::closed(initial(), 0, text)?))
+}
+
+impl BlockState for State {
+    ghost compressed = { compressed };
+
+    ghost order = { HighestFirst };
+
+    fn order() -> Order {
+        Order::HighestFirst
     }
-    Digest {
-        answer: answer::DONE,
-        octets: octets_in(closed(initial(), 0, text)),
+
+    fn compress(self, block: &[u8; 64]) -> State {
+        let mut w = [0u32; 64];
+        schedule(block, &mut w);
+        let s1 = sixteen(self, &w, 0);
+        let s2 = sixteen(s1, &w, 1);
+        let s3 = sixteen(s2, &w, 2);
+        let s4 = sixteen(s3, &w, 3);
+        added(self, s4)
     }
 }
 
-// What a text that is too long is answered.
-fn refused() -> Digest
-    ensures { result ≡ refused_digest }
+// The message schedule of a block, into a lent array: a returned one is copied, which takes 2 hundredths longer.
+fn schedule(block: &[u8; 64], w: &mut [u32; 64])
+    ensures { w.new ≡ words (next_word late_word block.now) 64 }
 {
-    Digest {
-        answer: answer::SIZE,
-        octets: [0u8; 32],
+    w[..16].copy_from_slice(&blocks::words_in(Order::HighestFirst, block));
+    for t in 16..64 {
+        w[t] = late_word(w, t);
     }
-}
-
-// The hash value of a text that goes on behind `prior` octets, no block or one, that gave s.
-fn closed(s: State, prior: usize, text: &[u8]) -> State
-    requires { (prior ≤ 64) × (prior % 64 ≡ 0) × (length text.now ≤ longest_text) }
-    ensures { result ≡ closed_by compressed HighestFirst s prior text.now }
-{
-    let h = absorbed(s, text);
-    let octets = prior + text.len();
-    let mut last = [0u8; 128];
-    let n = blocks::padded_tail(Order::HighestFirst, text, 8 * (octets as u64), &mut last);
-    absorbed(h, &last[..n])
-}
-
-// The hash value after all whole blocks of m.
-fn absorbed(s: State, m: &[u8]) -> State
-    ensures { result ≡ after_blocks compressed s m.now }
-{
-    let mut h = s;
-    let mut i = 0;
-    while i < m.len() / 64 {
-        let from = 64 * i;
-        let to = from + 64;
-        h = compress(h, &m[from..to]);
-        i += 1;
-    }
-    h
-}
-
-// The hash value after one block.
-fn compress(h: State, block: &[u8]) -> State
-    requires { length block.now ≡ 64 }
-    ensures { result ≡ compressed h block.now }
-{
-    let w = schedule(block);
-    let k = K;
-    let s1 = sixteen(h, &w, &k, 0);
-    let s2 = sixteen(s1, &w, &k, 1);
-    let s3 = sixteen(s2, &w, &k, 2);
-    let s4 = sixteen(s3, &w, &k, 3);
-    added(h, s4)
-}
-
-// The message schedule of a block.
-fn schedule(block: &[u8]) -> [u32; 64]
-    requires { length block.now ≡ 64 }
-    ensures { result ≡ words (next_word late_word block.now) 64 }
-{
-    let mut w = [0u32; 64];
-    let mut t = 0;
-    while t < 16 {
-        w[t] = word_at(block, t);
-        t += 1;
-    }
-    while t < 64 {
-        w[t] = late_word(&w, t);
-        t += 1;
-    }
-    w
-}
-
-// Word t of a block.
-fn word_at(block: &[u8], t: usize) -> u32
-    requires { (length block.now ≡ 64) × (t < 16) }
-    ensures { result ≡ word_be block.now (4 * t) }
-{
-    let i = 4 * t;
-    octets::word(block[i], block[i + 1], block[i + 2], block[i + 3])
 }
 
 // Word t of the schedule, from those before it.
@@ -144,75 +82,93 @@ fn late_word(w: &[u32; 64], t: usize) -> u32
 {
     let s0 = small_sigma(7, 18, 3, w[t - 15]);
     let s1 = small_sigma(17, 19, 10, w[t - 2]);
-    add(add(add(s1, w[t - 7]), s0), w[t - 16])
+    s1.wrapping_add(w[t - 7])
+        .wrapping_add(s0)
+        .wrapping_add(w[t - 16])
 }
 
-// Sixteen rounds, from round 16 * q on.
-fn sixteen(s: State, w: &[u32; 64], k: &[u32; 64], q: usize) -> State
-    requires { (q < 4) × (k.now ≡ constants) }
+// Sixteen rounds, from round 16 * q on. Not shared with the other digests: md4's round says why.
+fn sixteen(s: State, w: &[u32; 64], q: usize) -> State
+    requires { q < 4 }
     ensures { result ≡ rounds (round_of w.now) (16 * q) 16 s }
 {
     let mut x = s;
-    let mut i = 0;
-    while i < 16 {
-        x = round(x, w, k, 16 * q + i);
-        i += 1;
+    for i in 0..16 {
+        x = round(x, w, 16 * q + i);
     }
     x
 }
 
 // Round t. What waits longest for the round before is added last.
-fn round(s: State, w: &[u32; 64], k: &[u32; 64], t: usize) -> State
-    requires { (t < 64) × (k.now ≡ constants) }
+fn round(s: State, w: &[u32; 64], t: usize) -> State
+    requires { t < 64 }
     ensures { result ≡ round_of w.now t s }
 {
-    let chosen = (s.e & s.f) ^ (!s.e & s.g);
-    let majority = (s.a & s.b) ^ (s.a & s.c) ^ (s.b & s.c);
-    let t1 = add(
-        add(add(add(s.h, k[t]), w[t]), chosen),
-        big_sigma(6, 11, 25, s.e),
-    );
-    let t2 = add(big_sigma(2, 13, 22, s.a), majority);
+    let chosen = ch(s.e, s.f, s.g);
+    let majority = maj(s.a, s.b, s.c);
+    let k = K[t];
+    let t1 = s
+        .h
+        .wrapping_add(k)
+        .wrapping_add(w[t])
+        .wrapping_add(chosen)
+        .wrapping_add(big_sigma(6, 11, 25, s.e));
+    let t2 = big_sigma(2, 13, 22, s.a).wrapping_add(majority);
     State {
-        a: add(t1, t2),
+        a: t1.wrapping_add(t2),
         b: s.a,
         c: s.b,
         d: s.c,
-        e: add(s.d, t1),
+        e: s.d.wrapping_add(t1),
         f: s.e,
         g: s.f,
         h: s.g,
     }
 }
 
+// 4.1.2: a bit of y where x has one, and of z elsewhere.
+fn ch(x: u32, y: u32, z: u32) -> u32
+    ensures { result ≡ ch x y z }
+{
+    (x & y) ^ (!x & z)
+}
+
+// 4.1.2: the bit that most of three have.
+fn maj(x: u32, y: u32, z: u32) -> u32
+    ensures { result ≡ maj x y z }
+{
+    (x & y) ^ (x & z) ^ (y & z)
+}
+
 // 4.1.2: Σ, three rotations of a word.
 fn big_sigma(i: u32, j: u32, n: u32, x: u32) -> u32
+    requires { (0 < i) × (i < 32) × (0 < j) × (j < 32) × (0 < n) × (n < 32) }
     ensures { result ≡ big_sigma i j n x }
 {
-    rotr(x, i) ^ rotr(x, j) ^ rotr(x, n)
+    x.rotate_right(i) ^ x.rotate_right(j) ^ x.rotate_right(n)
 }
 
 // 4.1.2: σ, two rotations and a shift.
 fn small_sigma(i: u32, j: u32, n: u32, x: u32) -> u32
-    requires { n < 32 }
+    requires { (0 < i) × (i < 32) × (0 < j) × (j < 32) × (n < 32) }
     ensures { result ≡ small_sigma i j n x }
 {
-    rotr(x, i) ^ rotr(x, j) ^ (x >> n)
+    x.rotate_right(i) ^ x.rotate_right(j) ^ (x >> n)
 }
 
-// The working variables added to the hash value.
+// The working variables added to the hash value, one by one: each digest has its own.
 fn added(h: State, s: State) -> State
     ensures { result ≡ sums h s }
 {
     State {
-        a: add(s.a, h.a),
-        b: add(s.b, h.b),
-        c: add(s.c, h.c),
-        d: add(s.d, h.d),
-        e: add(s.e, h.e),
-        f: add(s.f, h.f),
-        g: add(s.g, h.g),
-        h: add(s.h, h.h),
+        a: s.a.wrapping_add(h.a),
+        b: s.b.wrapping_add(h.b),
+        c: s.c.wrapping_add(h.c),
+        d: s.d.wrapping_add(h.d),
+        e: s.e.wrapping_add(h.e),
+        f: s.f.wrapping_add(h.f),
+        g: s.g.wrapping_add(h.g),
+        h: s.h.wrapping_add(h.h),
     }
 }
 
@@ -236,8 +192,6 @@ fn initial() -> State
 fn octets_in(s: State) -> [u8; 32]
     ensures { result ≡ octets_in s }
 {
-    let mut out = [0u8; 32];
     let words = [s.a, s.b, s.c, s.d, s.e, s.f, s.g, s.h];
-    octets::put_words(Order::HighestFirst, &words, &mut out);
-    out
+    blocks::octets_of(Order::HighestFirst, &words)
 }

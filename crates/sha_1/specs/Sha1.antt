@@ -1,13 +1,13 @@
 -- SHA-1, as FIPS 180-4 defines it.
-use Rattle.std.specs.Prelude.{List, [], ◌∷◌, ℕ, ◌-◌, ltb, length, get_or, replicate}
+use Rattle.std.specs.Prelude.{List, [], ◌∷◌, ℕ, ◌-◌, ltb, length, get_or, Result}
 use Rattle.std.specs.Int.Bits.{bit_and, bit_xor}
-use Rattle.answer.specs.Answer.{size, pick, first_of, on_done}
+use Rattle.answer.specs.declared.Refusal.{Refusal}
+use Rattle.answer.specs.Answer.{size, pick, first_of, result_of}
 use Rattle.octets.specs.declared.Order.TheVariants.{HighestFirst}
 use Rattle.octets.specs.Octets.{words_of, longest_text}
 use Rattle.octets.specs.Words.{◌⊞◌, rotl, complement}
 use Rattle.blocks.specs.Blocks.{schedule, next_word, rounds, hashed}
 use Rattle.sha_1.specs.declared.State.{State}
-use Rattle.sha_1.specs.declared.Digest.{Digest}
 
 -- 4.1.1: the functions
 abbrev pub ch : ℕ → ℕ → ℕ → ℕ
@@ -63,6 +63,6 @@ sha1 m = octets_in (hashed compress HighestFirst initial m)
 abbrev pub sha1_code : List ℕ → ℕ
 sha1_code m = first_of ((size, ltb longest_text (length m)) ∷ [])
 
--- the answer to a text of any length; a refused one has zeros
-unfoldable pub sha1_answer : List ℕ → Digest
-sha1_answer m = record { answer = sha1_code m; octets = on_done (sha1_code m) (sha1 m) (replicate 20 0) }
+-- the answer to a text of any length
+unfoldable pub sha1_answer : List ℕ → Result (List ℕ) Refusal
+sha1_answer m = result_of (sha1_code m) (sha1 m)

@@ -1,12 +1,12 @@
 -- The binding key of SSTP (MS-SSTP, section 3.2.5.2.4), as 01, "Binding key", condenses it.
-use Rattle.std.specs.Prelude.{List, [], ◌∷◌, ◌++◌, ℕ, ◌-◌, ltb, length, take, replicate}
-use Rattle.answer.specs.Answer.{size, first_of, on_done, two_code}
+use Rattle.std.specs.Prelude.{List, [], ◌∷◌, ◌++◌, ℕ, ◌-◌, ltb, length, take, replicate, Result}
+use Rattle.answer.specs.declared.Refusal.{Refusal}
+use Rattle.answer.specs.Answer.{size, first_of, two_code, result_of}
 use Rattle.octets.specs.declared.Order.TheVariants.{LowestFirst}
 use Rattle.octets.specs.Octets.{octets_of, longest_text}
 use Rattle.sha256.specs.Hmac.{hmac}
 use Rattle.mppe_keys.specs.declared.Role.{Role}
 use Rattle.mppe_keys.specs.declared.Role.TheVariants.{Client, Server}
-use Rattle.sstp.specs.declared.Key.{Key}
 
 -- step 1, HLAK: "client's send start key then receive start key"; "the server puts receive first"
 abbrev pub base_key : (Client : Role) (send receive : List ℕ) → List ℕ
@@ -31,14 +31,14 @@ length_octets = octets_of LowestFirst 2 32
 unfoldable pub binding_key : List ℕ → List ℕ
 binding_key material = hmac (fitted material) (seed ++ length_octets ++ 0x01 ∷ [])
 
--- what is answered: the number, and the key; a refused one has zeros
-unfoldable pub key_answer : ℕ → List ℕ → Key
-key_answer code key = record { answer = code; octets = on_done code key (replicate 32 0) }
+-- what is answered: the key where the number is 0, and otherwise the refusal
+unfoldable pub key_answer : ℕ → List ℕ → Result (List ℕ) Refusal
+key_answer code key = result_of code key
 
 -- start keys have 16 octets
-unfoldable pub base_key_answer : (role : Role) (send receive : List ℕ) → Key
+unfoldable pub base_key_answer : (role : Role) (send receive : List ℕ) → Result (List ℕ) Refusal
 base_key_answer role send receive = key_answer (two_code 16 send 16 receive) (base_key role send receive)
 
 -- key material has 0 to 65,535
-unfoldable pub binding_key_answer : List ℕ → Key
+unfoldable pub binding_key_answer : List ℕ → Result (List ℕ) Refusal
 binding_key_answer material = key_answer (first_of ((size, ltb longest_text (length material)) ∷ [])) (binding_key material)

@@ -1,8 +1,9 @@
 // Derives the base and binding keys of both ends from RFC 3079's 128-bit sample, tries the limits of 01, and prints what is answered.
 #![tactic(auto)]
 
-ghost use Rattle.std.specs.Prelude.{◌≤◌};
+ghost use Rattle.std.specs.Prelude.{◌≤◌, length};
 
+use answer::{Refusal, number_of};
 use mppe_keys::{Direction, Role, Strength};
 use std::io;
 use std::io::{BufWriter, Write};
@@ -26,8 +27,9 @@ fn main(rt: HostRuntime) -> io::Result<()> {
 fn print_all<W: Write>(writer: &mut W) -> io::Result<()> {
     end(writer, b"client", Role::Client)?;
     end(writer, b"server", Role::Server)?;
-    sizes(writer, Role::Client)?;
-    sizes(writer, Role::Server)?;
+    for role in [Role::Client, Role::Server] {
+        sizes(writer, role)?;
+    }
     materials(writer)?;
     bound(writer, &[0u8; 32])
 }
@@ -48,10 +50,11 @@ fn start_key<W: Write>(
     role: Role,
     direction: Direction,
 ) -> io::Result<[u8; 16]> {
-    let key = mppe_keys::start_key(Strength::Bits128, role, direction, &MASTER);
-    let octets = key.octets;
-    report::line(writer, label, key.answer, &octets)?;
-    Ok(octets)
+    shown(
+        writer,
+        label,
+        mppe_keys::start_key(Strength::Bits128, role, direction, &MASTER),
+    )
 }
 
 // Prints a base key, and hands back its octets.
@@ -61,30 +64,32 @@ fn base_key<W: Write>(
     send: &[u8],
     receive: &[u8],
 ) -> io::Result<[u8; 32]> {
-    let key = sstp::base_key(role, send, receive);
-    let octets = key.octets;
-    report::line(writer, b"base key", key.answer, &octets)?;
+    shown(writer, b"base key", sstp::base_key(role, send, receive))
+}
+
+// Prints a key, and hands back its octets: zeros where it is refused.
+fn shown<W: Write, const N: usize>(
+    writer: &mut W,
+    label: &[u8],
+    key: Result<[u8; N], Refusal>,
+) -> io::Result<[u8; N]> {
+    let number = number_of(&key);
+    let octets = key.unwrap_or([0; N]);
+    report::line(writer, label, number, &octets)?;
     Ok(octets)
 }
 
 // Start keys of right and wrong lengths.
 fn sizes<W: Write>(writer: &mut W, role: Role) -> io::Result<()> {
-    sized(writer, role, 16, 16)?;
-    sized(writer, role, 15, 16)?;
-    sized(writer, role, 17, 16)?;
-    sized(writer, role, 16, 15)?;
-    sized(writer, role, 16, 17)?;
-    sized(writer, role, 8, 8)?;
-    sized(writer, role, 0, 0)
-}
-
-// Start keys of so many octets.
-fn sized<W: Write>(writer: &mut W, role: Role, send: usize, receive: usize) -> io::Result<()>
-    requires { (send ≤ 17) × (receive ≤ 17) }
-{
-    let sent = [0x11u8; 17];
-    let received = [0x22u8; 17];
-    base_key(writer, role, &sent[0..send], &received[0..receive])?;
+    let sent = &[0x11; 17][..];
+    let received = &[0x22; 17][..];
+    base_key(writer, role, &sent[..16], &received[..16])?;
+    base_key(writer, role, &sent[..15], &received[..16])?;
+    base_key(writer, role, sent, &received[..16])?;
+    base_key(writer, role, &sent[..16], &received[..15])?;
+    base_key(writer, role, &sent[..16], received)?;
+    base_key(writer, role, &sent[..8], &received[..8])?;
+    base_key(writer, role, b"", b"")?;
     Ok(())
 }
 
@@ -92,35 +97,36 @@ fn sized<W: Write>(writer: &mut W, role: Role, send: usize, receive: usize) -> i
 fn materials<W: Write>(writer: &mut W) -> io::Result<()> {
     let mut octets = [0u8; TOO_LONG];
     fill(&mut octets);
-    let mut n = 0;
-    while n <= 70 {
-        material_of(writer, &octets, n)?;
-        n += 1;
+    for n in 0..=70 {
+        bound(writer, &octets[..n])?;
     }
-    material_of(writer, &octets, TOO_LONG - 1)?;
-    material_of(writer, &octets, TOO_LONG)
+    longest(writer, &octets)
+}
+
+// All of them but the last, and all.
+fn longest<W: Write>(writer: &mut W, octets: &[u8]) -> io::Result<()>
+    requires { 1 ≤ length octets.now }
+{
+    bound(writer, &octets[..octets.len() - 1])?;
+    bound(writer, octets)
 }
 
 // Octets that begin with no zero.
 fn fill(octets: &mut [u8]) {
-    let mut i = 0;
-    while i < octets.len() {
-        octets[i] = (i % 255 + 1) as u8;
-        i += 1;
+    for (i, octet) in octets.iter_mut().enumerate() {
+        *octet = (i % 255 + 1) as u8;
     }
-}
-
-// The first n octets as key material.
-fn material_of<W: Write>(writer: &mut W, octets: &[u8], n: usize) -> io::Result<()> {
-    if octets.len() < n {
-        return Ok(());
-    }
-    bound(writer, &octets[0..n])
 }
 
 // Prints the binding key of key material.
 fn bound<W: Write>(writer: &mut W, material: &[u8]) -> io::Result<()> {
     let key = sstp::binding_key(material);
-    let octets = key.octets;
-    report::numbered(writer, b"binding key", material.len(), key.answer, &octets)
+    let number = number_of(&key);
+    report::numbered(
+        writer,
+        b"binding key",
+        material.len(),
+        number,
+        &key.unwrap_or([0; 32]),
+    )
 }

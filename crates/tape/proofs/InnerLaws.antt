@@ -1,38 +1,31 @@
 -- From the steps of the code to what the calls answer.
 use mathlib.Core.Path.{◌≡◌, refl, sym, ap, subst, ◌∙◌}
-use mathlib.Core.Bool.{Bool, true, false, not}
-use mathlib.Core.List.{List, [], ◌∷◌}
+use mathlib.Core.Bool.{Bool, true, false, not, true≢false}
+use mathlib.Core.List.{List, [], ◌∷◌, ◌++◌, append-nil, append_assoc}
 use Prim.Native.Nat.{ℕ, zero, suc, ◌+◌, ◌*◌, ◌-◌, ◌/◌, ◌%◌, ◌^◌, ◌<◌, ◌≤◌}
 use native.Mathlib.Numerals.{add-one}
 use native.Mathlib.Omega.{arith}
-use lib.Dec.{eqb}
+use lib.Dec.{eqb, ltb}
 use lib.ListN.{length, take, drop, get_or, set, length-append, length-drop, drop_of_length-le}
 use lib.Seq.{length-take-le, take_all, take-length, drop-cons, drop-drop, get_or-drop}
-use borrow.Author.Tests.{lt-ltb, le-ltb, ltb-false, eq-eqb, ne_eqb}
-use Rattle.answer.specs.Answer.{done, shape, room, size, not_record, pick, outside, first_of, on_done}
+use borrow.Author.Tests.{lt-ltb, le-ltb, ltb-true, ltb-false, eq-eqb, ne_eqb}
+use Rattle.std.proofs.Common.{suc-ne-zero}
+use Rattle.std.specs.Prelude.{Result, Ok, Err, is_ok}
+use Rattle.answer.specs.declared.Refusal.{Refusal}
+use Rattle.answer.specs.declared.Refusal.TheVariants.{Shape}
+use Rattle.answer.specs.Answer.{done, shape, size, pick, outside, first_of, on_done, number_of, result_of}
 use Rattle.answer.specs.Laws.{clear, within, not_done}
-use Rattle.octets.specs.Octets.{written, written_at, onward}
-use Rattle.octets.specs.Laws.{copy_more, copy_fits, written_more}
+use Rattle.octets.specs.Octets.{written, onward}
+use borrow.Rule.Slice.PartMut.{put_mid}
+use Rattle.octets.specs.Laws.{copy_more, written_more}
 use Rattle.mppe.specs.declared.Link.{Link}
 use Rattle.mppe.specs.declared.Outcome.{Outcome}
 use Rattle.mppe.specs.Link.{front, well_formed, refusal, open_result}
 use Rattle.tape.specs.declared.Next.{Next}
 use Rattle.tape.specs.declared.Replayed.{Replayed}
-use Rattle.tape.specs.declared.Written.{Written}
-use Rattle.tape.specs.Tape.{first_octet, shortest_packet, groups, length_in, Read, reading, next_of, on_packet, begin_code, begin_out, place_rows, record_size, record_of, length_at, packet_at, write_code, write_answer, write_out, record_rows, record_read, read_at}
+use Rattle.tape.specs.Tape.{first_octet, shortest_packet, groups, length_in, Read, reading, next_of, on_packet, place_rows, record_size, record_of, length_at, packet_at, write_code, write_answer, write_out, record_rows, record_read, read_at}
 use Rattle.tape.specs.Replay.{step_of, replayed, held, replay_step}
-use Rattle.tape.proofs.Laws.{low_some, groups_one, groups_more, length_one, length_more, pow_some}
-
--- a number that is not 0
-pub positive : (n : ℕ) → (n ≡ 0 → ⊥) → 0 < n
-positive zero h = absurd (h refl)
-positive (suc n) h = omega arith
-
--- lengths of few groups fit a machine's number
-pub power_up : (k j : ℕ) → k ≤ j → 128 ^ k ≤ 128 ^ j
-power_up zero j h = pow_some j
-power_up (suc k) zero h = absurd (omega arith)
-power_up (suc k) (suc j) h = omega (arith, power_up k j (omega arith))
+use Rattle.tape.proofs.Laws.{read_number, low_some, groups_one, groups_more, length_one, length_more, pow_some}
 
 -- what the groups from one on say: no octet is there, or the last group, or one with others behind it
 module _ (k : ℕ) (l : List ℕ) (i : ℕ) where
@@ -63,7 +56,7 @@ module _ (k : ℕ) (l : List ℕ) (i : ℕ) where
 
       pub some_behind : g < 256 → high < 128 ^ (k - (i + 1)) → (high ≡ 0 → ⊥) → Said (g - 128 + 128 * high)
       some_behind octet below more =
-          rw (left, here, length_more (k - (i + 1)) g (drop (i + 1) l) top, ← said) (sym (low_some (g - 128) high (positive high more)), omega arith)
+          rw (left, here, length_more (k - (i + 1)) g (drop (i + 1) l) top, ← said) (sym (low_some (g - 128) high (omega (arith, more))), omega arith)
 
 -- the same of a longer form, as the check applies it by itself
 pub longer_form : (k : ℕ) (l : List ℕ) (i : ℕ) → i < k → i < length l → 128 ≤ get_or l i 0 → length_in (k - (i + 1)) (drop (i + 1) l) ≡ 0
@@ -72,26 +65,10 @@ longer_form k l i some there top none = sym (none_behind k l i some there refl t
 
 pub ruleset no_length = (longer_form, pow_some)
 
--- a tape begun, or no octet for it
-pub begun_none : (out : List ℕ) → length out < 1 → (room ≡ begin_code out) × (out ≡ begin_out out)
-unfolding begin_code begin_out
-begun_none out h = rw (lt-ltb (length out) 1 h) (refl, refl)
-
-pub begun : (out : List ℕ) → 1 ≤ length out → (done ≡ begin_code out) × (set out 0 first_octet ≡ begin_out out)
-unfolding begin_code begin_out
-begun [] h = absurd (omega arith)
-begun (x ∷ out) h = rw (le-ltb (suc (length out)) 1 h) (refl, refl)
-
--- the first octet: missing, another, right
+-- no first octet
 pub no_first : (tape : List ℕ) → length tape ≡ 0 → not (eqb (get_or tape 0 0) first_octet) ≡ true
 no_first [] h = refl
 no_first (x ∷ tape) h = absurd (omega arith)
-
-pub first_bad : (x : ℕ) → (x ≡ first_octet → ⊥) → not (eqb x first_octet) ≡ true
-first_bad x h = rw (ne_eqb x first_octet h)
-
-pub first_right : (x : ℕ) → x ≡ first_octet → not (eqb x first_octet) ≡ false
-first_right x h = rw (eq-eqb x first_octet h)
 
 -- a number of more than one group
 more_groups : (j left : ℕ) → 128 ≤ left → left < 128 ^ suc j → 0 < j
@@ -142,6 +119,13 @@ module _ (k n : ℕ) where
         let (size, group, _) = at_place left [] (ap (λ (j : ℕ). groups j left) behind ∙ groups_one (k - (i + 1)) left last) in
         (omega arith, group)
 
+    pub place_inside : i < length (groups k n)
+    place_inside = by (ltb left 128) refl
+      where
+        by : (t : Bool) → ltb left 128 ≡ t → i < length (groups k n)
+        by true e = omega (arith, (top_group (ltb-true left 128 e)).0)
+        by false e = (next_group (ltb-false left 128 e)).0
+
 -- a group put behind others in the front of a buffer that has room for all
 pub group_put : {b : List ℕ} (l out : List ℕ) (i g : ℕ) → b ≡ written (take i l) out → get_or l i 0 ≡ g → i < length l → length l ≤ length out
     → set b i g ≡ written (take (i + 1) l) out
@@ -151,37 +135,25 @@ pub top_put : {b : List ℕ} (l out : List ℕ) (i g : ℕ) → b ≡ written (t
     → set b i g ≡ written l out
 top_put l out i g e is size fits = group_put l out i g e is (omega arith) fits ∙ rw (← size, take-length)
 
--- the loop over the groups of a length, from the highest one that may be down to the lowest
+-- what is said behind the highest group that may be
 pub before_groups : (k : ℕ) (l : List ℕ) → Said k l k 0
 unfolding length_in
 before_groups k l =
     let none : k - k ≡ 0 = omega arith in
     rw none (refl, pow_some 0)
 
-pub group_before : {n : ℕ} (k : ℕ) (l : List ℕ) (i : ℕ) → 0 < i → i ≤ k → Said k l i n
-    → (i - 1 < k) × (n ≡ length_in (k - (i - 1 + 1)) (drop (i - 1 + 1) l)) × (n < 128 ^ (k - (i - 1 + 1)))
-group_before k l i some most said =
-    let same : i - 1 + 1 ≡ i = omega arith in
-    (omega arith, rw same said.0, rw same said.1)
-
-pub all_groups : {n : ℕ} (k : ℕ) (l : List ℕ) (i : ℕ) → i ≤ 0 → Said k l i n → n ≡ length_in k l
-all_groups k l zero h said =
-    let whole : k - 0 ≡ k = omega arith in
-    (rw whole at said).0
-all_groups k l (suc i) h said = absurd (omega arith)
-
 -- where a read's packet stands: none, or one that ends at the offset answered
-abbrev pub nothing : ℕ → ℕ → Next
-nothing code offset = record { answer = code; start = offset; offset = offset }
+abbrev pub nothing : Result (Unit {0}) Refusal → ℕ → Next
+nothing answer offset = record { answer = answer; start = offset; offset = offset }
 
-no_packet : {next : Next} {r : Read} (code offset : ℕ) → r ≡ reading code [] offset → next ≡ nothing code offset → next ≡ next_of r
+no_packet : {next : Next} {r : Read} (code offset : ℕ) → r ≡ reading code [] offset → next ≡ nothing (result_of code tt) offset → next ≡ next_of r
 unfolding next_of
 no_packet code offset e is =
     let same : offset - 0 ≡ offset = omega arith in
     is ∙ rw (e, same)
 
 some_packet : {r : Read} (p : List ℕ) (start offset : ℕ) → r ≡ reading done p offset → start + length p ≡ offset
-    → ◌≡◌ {A = Next} (record { answer = done; start = start; offset = offset }) (next_of r)
+    → ◌≡◌ {A = Next} (record { answer = Ok tt; start = start; offset = offset }) (next_of r)
 unfolding next_of
 some_packet p start offset e sum =
     let begin : offset - length p ≡ start = omega arith in
@@ -197,17 +169,17 @@ module _ (k most : ℕ) (tape : List ℕ) (o : ℕ) {n : ℕ} {beyond : Bool} (s
   length_is : length_at k tape o ≡ n
   length_is = sym (said ∙ ap (λ (l : List ℕ). length_in k l) (take_all (length tape - o) (drop o tape) (omega (arith, length-drop o tape))))
 
-  pub record_other : {next : Next} → beyond ≡ true → next ≡ nothing shape o → next ≡ next_of (record_read k most tape o)
+  pub record_other : {next : Next} → beyond ≡ true → next ≡ nothing (Err Shape) o → next ≡ next_of (record_read k most tape o)
   unfolding record_read
   record_other other is = no_packet shape o (rw (length_is, ← long, other)) is
 
   module _ {g : ℕ} (carried : beyond ≡ false) (size : g ≡ length (groups k n)) where
-    pub record_cut : {next : Next} → length tape - o < g + n → next ≡ nothing shape o → next ≡ next_of (record_read k most tape o)
+    pub record_cut : {next : Next} → length tape - o < g + n → next ≡ nothing (Err Shape) o → next ≡ next_of (record_read k most tape o)
     unfolding record_read
     record_cut h is = no_packet shape o (rw (length_is, ← long, carried, ← size, lt-ltb (length tape - o) (g + n) h)) is
 
     pub record_whole : g + n ≤ length tape - o
-        → ◌≡◌ {A = Next} (record { answer = done; start = o + g; offset = o + g + n }) (next_of (record_read k most tape o))
+        → ◌≡◌ {A = Next} (record { answer = Ok tt; start = o + g; offset = o + g + n }) (next_of (record_read k most tape o))
     unfolding record_read
     record_whole h =
         let after : o + (g + n) ≡ o + g + n = omega arith in
@@ -216,21 +188,35 @@ module _ (k most : ℕ) (tape : List ℕ) (o : ℕ) {n : ℕ} {beyond : Bool} (s
         (rw (length_is, ← long, carried, ← size, le-ltb (length tape - o) (g + n) h, after)) (omega arith)
 
 -- the ways out of a read: a wrong place, the end, a record
-module _ (k most : ℕ) (tape : List ℕ) (o : ℕ) {code : ℕ} (place : code ≡ first_of (place_rows tape o)) where
-  pub misplaced : {next : Next} → (code ≡ done → ⊥) → next ≡ nothing code 0 → next ≡ next_of (read_at k most tape o)
+module _ (k most : ℕ) (tape : List ℕ) (o : ℕ) {placed : Result (Unit {0}) Refusal} (place : placed ≡ result_of (first_of (place_rows tape o)) tt) where
+  pub misplaced : {next : Next} → is_ok placed ≡ false → next ≡ nothing placed 0 → next ≡ next_of (read_at k most tape o)
   unfolding read_at
-  misplaced bad is = no_packet code 0 (rw (← place) (not_done code _ _ bad)) is
+  misplaced bad is = no_packet code 0 (not_done code _ _ (refusal code (rw place at bad))) (is ∙ rw place)
+    where
+      code : ℕ
+      code = first_of (place_rows tape o)
 
-  pub inside : code ≡ done → o ≤ length tape
-  inside good = (within 1 (length tape) o (clear size (place_rows tape o) refl (sym place ∙ good)).0).1
+      refusal : (n : ℕ) → is_ok (result_of {A = Unit {0}} n tt) ≡ false → n ≡ done → ⊥
+      refusal zero bad e = true≢false bad
+      refusal (suc n) bad e = suc-ne-zero n e
 
-  pub at_end_lem : {next : Next} → code ≡ done → o ≡ length tape → next ≡ nothing done o → next ≡ next_of (read_at k most tape o)
+  good : is_ok placed ≡ true → first_of (place_rows tape o) ≡ done
+  good fine = by (first_of (place_rows tape o)) (rw place at fine)
+    where
+      by : (n : ℕ) → is_ok (result_of {A = Unit {0}} n tt) ≡ true → n ≡ done
+      by zero fine = refl
+      by (suc n) fine = absurd (true≢false (sym fine))
+
+  pub inside : is_ok placed ≡ true → o ≤ length tape
+  inside fine = (within 1 (length tape) o (clear size (place_rows tape o) refl (good fine)).0).1
+
+  pub at_end_lem : {next : Next} → is_ok placed ≡ true → o ≡ length tape → next ≡ nothing (Ok tt) o → next ≡ next_of (read_at k most tape o)
   unfolding read_at
-  at_end_lem good e is = no_packet done o (rw (← place, good, eq-eqb o (length tape) e)) is
+  at_end_lem fine e is = no_packet done o (rw (good fine, eq-eqb o (length tape) e)) is
 
-  pub at_record : {next : Next} → code ≡ done → (o ≡ length tape → ⊥) → next ≡ next_of (record_read k most tape o) → next ≡ next_of (read_at k most tape o)
+  pub at_record : {next : Next} → is_ok placed ≡ true → (o ≡ length tape → ⊥) → next ≡ next_of (record_read k most tape o) → next ≡ next_of (read_at k most tape o)
   unfolding read_at
-  at_record good e is = is ∙ ap next_of (sym (rw (← place, good, ne_eqb o (length tape) e)))
+  at_record fine e is = is ∙ ap next_of (sym (rw (good fine, ne_eqb o (length tape) e)))
 
 -- a read's packet is the part of the tape that ends at the offset answered
 module _ (k most : ℕ) (tape : List ℕ) (o : ℕ) where
@@ -267,7 +253,7 @@ module _ (k most : ℕ) (tape : List ℕ) (o : ℕ) where
 
       by : (code : ℕ) → first_of (place_rows tape o) ≡ code
           → IsPart (on_done code (pick (eqb o (length tape)) (reading done [] o) (record_read k most tape o)) (reading code [] 0))
-      by zero e = end (inside k most tape o (sym e) refl) (eqb o (length tape))
+      by zero e = end (inside k most tape o (ap (λ n. result_of n tt) (sym e)) refl) (eqb o (length tape))
       by (suc c) e = no_part (suc c) 0 (omega arith)
 
   -- the same of where it stands
@@ -311,20 +297,25 @@ module _ (k most : ℕ) (tape : List ℕ) (o : ℕ) where
             absurd (differ (rw (is, e, same)))
         by (x ∷ p) e = refl
 
+-- as the check applies it by itself
+pub part_low : (k most : ℕ) (tape : List ℕ) (o : ℕ) → (next_of (read_at k most tape o)).start ≤ (next_of (read_at k most tape o)).offset
+part_low k most tape o = (part_fits k most tape o refl).0
+
+pub part_high : (k most : ℕ) (tape : List ℕ) (o : ℕ) → (next_of (read_at k most tape o)).offset ≤ length tape
+part_high k most tape o = (part_fits k most tape o refl).1
+
+pub ruleset part_within = (part_low, part_high)
+
 -- the ways out of a replay step
 module _ (k limit far : ℕ) (l : Link) (room tape : List ℕ) (o : ℕ) {well : Bool} (form : well ≡ well_formed l) where
   abbrev Stepped : Replayed → List ℕ → Type 0
   Stepped r after =
       (r ≡ replayed (replay_step k limit far (held l room) tape o)) × (after ≡ (replay_step k limit far (held l room) tape o).result.buffer)
 
-  pub step_ill : {r : Replayed} → well ≡ false → r ≡ replayed (step_of (refusal not_record l []) 0) → Stepped r room
-  unfolding replay_step
-  step_ill ill is = rw (sym form ∙ ill) (is, refl)
-
   module _ {next : Next} (good : well ≡ true) (found : next ≡ next_of (read_at k (front + limit) tape o)) where
-    pub step_none : {r : Replayed} → next.start ≡ next.offset → r ≡ replayed (step_of (refusal next.answer l []) next.offset) → Stepped r room
+    pub step_none : {r : Replayed} {code : ℕ} → next.start ≡ next.offset → code ≡ number_of next.answer → r ≡ replayed (step_of (refusal code l []) next.offset) → Stepped r room
     unfolding replay_step next_of
-    step_none same is = rw (sym form ∙ good, no_octets k (front + limit) tape o found same) (is ∙ rw found, refl)
+    step_none same number is = rw (sym form ∙ good, no_octets k (front + limit) tape o found same) (is ∙ rw (number, found, read_number k (front + limit) tape o), refl)
 
     pub step_some : {out : Outcome} {after : List ℕ} → (next.start ≡ next.offset → ⊥)
         → out ≡ (open_result limit far l (take (next.offset - next.start) (drop next.start tape)) room).outcome
@@ -336,26 +327,18 @@ module _ (k limit far : ℕ) (l : Link) (room tape : List ℕ) (o : ℕ) {well :
         let offset : next.offset ≡ (read_at k (front + limit) tape o).offset = ap (λ (x : Next). x.offset) found ∙ (unfold next_of in refl) in
         rw (sym form ∙ good, some_octets k (front + limit) tape o found _ _ differ) (rw (is, part, offset), rw (wrote, part))
 
--- the ways out of a write
+-- a write that is done
 module _ (k most : ℕ) (p out : List ℕ) {beyond : Bool} (long : beyond ≡ outside shortest_packet most (length p)) where
-  abbrev Wrote : Written → List ℕ → Type 0
-  Wrote r after = (r ≡ write_answer k most p out) × (after ≡ write_out k most p out)
-
-  kept : {r : Written} (code : ℕ) → write_code k most p out ≡ suc code → r ≡ record { answer = suc code; length = 0 } → Wrote r out
-  unfolding write_answer write_out
-  kept code e is = rw e (is, refl)
-
-  pub write_other : {r : Written} → beyond ≡ true → r ≡ record { answer = shape; length = 0 } → Wrote r out
-  write_other other is = kept 0 (unfold write_code in rw (← long, other)) is
-
   module _ {g : ℕ} (carried : beyond ≡ false) (size : g ≡ length (groups k (length p))) where
-    pub write_cut : {r : Written} → length out < g + length p → r ≡ record { answer = room; length = 0 } → Wrote r out
-    write_cut h is = kept 1 (unfold write_code in rw (← long, carried, ← size, lt-ltb (length out) (g + length p) h)) is
-
-    pub write_whole : {b b' : List ℕ} → g + length p ≤ length out → b ≡ written (groups k (length p)) out
-        → b' ≡ written_at g (take (length b - g) p) b → Wrote (record { answer = done; length = g + length p }) b'
+    pub write_whole : {b ys : List ℕ} → g + length p ≤ length out → b ≡ written (groups k (length p)) out
+        → ys ≡ written p (take (length b - g) (drop g b))
+        → (Ok (g + length p) ≡ write_answer k most p out) × (put_mid g (length b - g) b ys ≡ write_out k most p out)
     unfolding write_answer write_out record_of
-    write_whole {b} h put copied =
+    write_whole {b} {ys} h put copied =
         let code : write_code k most p out ≡ done = unfold write_code in rw (← long, carried, ← size, le-ltb (length out) (g + length p) h) in
         let same : length b ≡ length out = ap (λ (x : List ℕ). length x) put ∙ length-append (groups k (length p)) _ ∙ omega (arith, length-drop (length (groups k (length p))) out) in
-        rw code (rw size, written_more (groups k (length p)) out p g put (copied ∙ copy_fits g p b (omega arith)) (sym size))
+        let part : take (length b - g) (drop g b) ≡ drop g b = take_all (length b - g) (drop g b) (omega (arith, length-drop g b)) in
+        let none : drop (length b - g) (drop g b) ≡ [] = drop_of_length-le (drop g b) {i = length b - g} (omega (arith, length-drop g b)) in
+        let behind : put_mid g (length b - g) b ys ≡ take g b ++ p ++ drop (g + length p) b =
+        rw (copied, part, none, drop-drop (length p) g b, append-nil, append_assoc) in
+        rw code (rw size, written_more (groups k (length p)) out p g put behind (sym size))

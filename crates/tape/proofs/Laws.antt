@@ -9,8 +9,8 @@ use native.Mathlib.Omega.{arith}
 use Rattle.std.proofs.Math.ListN.{length, drop, get_or, length-append, length-drop}
 use Rattle.std.proofs.Math.Seq.{length-take-le, take-append-add, drop-length, take-append_seam, drop-append_seam, get_or-drop}
 use borrow.Author.Tests.{lt-ltb, le-ltb, ltb-true, ltb-false, eq-eqb, ne_eqb, eqb-true, not-false}
-use Rattle.answer.specs.Answer.{done, shape, size, pick, first_of, on_done}
-use Rattle.answer.specs.Laws.{clear, within, outside_none}
+use Rattle.answer.specs.Answer.{done, shape, size, pick, first_of, on_done, number_of, result_of}
+use Rattle.answer.specs.Laws.{clear, within, outside_none, number_first}
 use Rattle.octets.specs.Octets.{Octets}
 use Rattle.tape.specs.Tape.{first_octet, shortest_packet, longest_packet, most_groups, groups, with_low, length_in, Read, reading, Contents, ended, behind, holding, on_packet, record_size, record_of, records_of, tape_of, Fits, Writable, write_out, place_rows, length_at, packet_at, record_rows, record_read, read_at, read_on, read_from, contents, ReadsBack, WritesNext}
 
@@ -393,3 +393,19 @@ writes_next k most ps p rest e =
       size,
       take-append_seam (record_of k p) (drop (length (record_of k p)) rest),
     ) (tape_more k ps p)
+
+-- the number of a read is in the table
+pub read_number : (k most : ℕ) (tape : List ℕ) (o : ℕ) → number_of (result_of {A = Unit {0}} (read_at k most tape o).answer tt) ≡ (read_at k most tape o).answer
+unfolding read_at record_read
+read_number k most tape o = by (first_of (place_rows tape o)) (eqb o (length tape)) (first_of (record_rows k most tape o))
+    (number_first {A = Unit {0}} (place_rows tape o) tt refl) (number_first {A = Unit {0}} (record_rows k most tape o) tt refl)
+  where
+    Numbered : ℕ → Type 0
+    Numbered n = number_of (result_of {A = Unit {0}} n tt) ≡ n
+
+    by : (c : ℕ) (t : Bool) (d : ℕ) → Numbered c → Numbered d
+        → Numbered (on_done c (pick t (reading done [] o) (on_done d (reading done (packet_at k tape o) (o + record_size k (length_at k tape o))) (reading d [] o))) (reading c [] 0)).answer
+    by zero true d hc hd = refl
+    by zero false zero hc hd = refl
+    by zero false (suc d) hc hd = hd
+    by (suc c) t d hc hd = hc

@@ -1,10 +1,10 @@
 -- The bench tape, in the order and words of 02, M-109, with the limits of M-110. `k` is the largest number of groups, `most` the longest packet.
-use Rattle.std.specs.Prelude.{◌≡◌, Bool, false, not, ◌↔◌, List, [], ◌∷◌, ◌++◌, ℕ, zero, suc, ◌+◌, ◌*◌, ◌-◌, ◌/◌, ◌%◌, ◌^◌, ◌<◌, eqb, ltb, length, take, drop, get_or}
-use Rattle.answer.specs.Answer.{done, shape, room, size, pick, outside, first_of, on_done}
+use Rattle.std.specs.Prelude.{◌≡◌, Bool, false, not, ◌↔◌, List, [], ◌∷◌, ◌++◌, ℕ, zero, suc, ◌+◌, ◌*◌, ◌-◌, ◌/◌, ◌%◌, ◌^◌, ◌<◌, eqb, ltb, length, take, drop, get_or, Result}
+use Rattle.answer.specs.declared.Refusal.{Refusal}
+use Rattle.answer.specs.Answer.{done, shape, room, size, pick, outside, first_of, on_done, result_of}
 use Rattle.octets.specs.Octets.{Octets, written}
 use Rattle.mppe.specs.Link.{front, shortest_plain, longest_plain}
 use Rattle.tape.specs.declared.Next.{Next}
-use Rattle.tape.specs.declared.Written.{Written}
 
 -- "The tape is octet 1, then records"
 abbrev pub first_octet : ℕ
@@ -29,6 +29,9 @@ groups (suc k) n = pick (ltb n 128) (n ∷ []) ((128 + n % 128) ∷ groups k (n 
 -- a tape begun: 2 where there is no octet for it
 unfoldable pub begin_code : (out : List ℕ) → ℕ
 begin_code out = first_of ((room, ltb (length out) 1) ∷ [])
+
+unfoldable pub begin_answer : (out : List ℕ) → Result (Unit {0}) Refusal
+begin_answer out = result_of (begin_code out) tt
 
 unfoldable pub begin_out : (out : List ℕ) → List ℕ
 begin_out out = on_done (begin_code out) (written (first_octet ∷ []) out) out
@@ -56,10 +59,9 @@ module _ (k : ℕ) where
     write_code packet out =
         first_of ((shape, outside shortest_packet most (length packet)) ∷ (room, ltb (length out) (record_size (length packet))) ∷ [])
 
-    -- what it answers, with the octets written, and the lent buffer after it
-    unfoldable pub write_answer : (packet out : List ℕ) → Written
-    write_answer packet out =
-        record { answer = write_code packet out; length = on_done (write_code packet out) (record_size (length packet)) 0 }
+    -- how many octets it wrote, or its refusal, and the lent buffer after it
+    unfoldable pub write_answer : (packet out : List ℕ) → Result ℕ Refusal
+    write_answer packet out = result_of (write_code packet out) (record_size (length packet))
 
     unfoldable pub write_out : (packet out : List ℕ) → List ℕ
     write_out packet out = on_done (write_code packet out) (written (record_of packet) out) out
@@ -86,7 +88,7 @@ reading code packet offset = record { answer = code; packet = packet; offset = o
 
 -- where its packet stands on the tape: it ends at the offset after it
 unfoldable pub next_of : Read → Next
-next_of r = record { answer = r.answer; start = r.offset - length r.packet; offset = r.offset }
+next_of r = record { answer = result_of r.answer tt; start = r.offset - length r.packet; offset = r.offset }
 
 -- "before these, a missing or bad first octet is 1, then an offset of 0 or past the end 3"
 abbrev pub place_rows : (tape : List ℕ) (offset : ℕ) → List (ℕ × Bool)

@@ -1,14 +1,15 @@
-use mathlib.Core.Path.{refl}
-use native.Mathlib.Omega.{arith}
-use borrow.Author.Rules.{rules}
+use mathlib.Core.Path.{ap, ◌∙◌}
+use Rattle.std.specs.Slice.Iter.{chunks_rest}
 use Rattle.bench.proofs.Laws.{cut_none, cut_more, cut_all}
 use Rattle.bench.proofs.feed_all.Goals as goal
 
-pub loop-n-init : goal.loop-n-init
-loop-n-init c = (omega arith, refl, cut_none _ _ c.args.text.now)
+pub loop-piece-init : goal.loop-piece-init
+loop-piece-init c =
+    cut_none c.args.first c.args.out.now c.args.text.now
+    (ap (λ i. chunks_rest i) c.into_iter-piece-iterator.ensures.into_iter_gives ∙ c.chunks-piece-items.ensures.rest)
 
-pub loop-n-preserved : goal.loop-n-preserved
-loop-n-preserved c = (omega arith, search rules, cut_more c.args.text.now c.loop-n.n c.least-m.result c.loop-n.invariant.2 c.feed-fed.ensures)
+pub loop-piece-preserved : goal.loop-piece-preserved
+loop-piece-preserved c = cut_more _ _ c.loop-piece.invariant c.in-Some.ensures.steps.1.0 c.feed.ensures
 
 pub returns : goal.returns
-returns c = cut_all c.args.text.now c.loop-n.n (omega arith) c.loop-n.invariant.2
+returns c = cut_all c.loop-piece.invariant c.in-None.ensures.steps.1.0

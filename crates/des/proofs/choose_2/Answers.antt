@@ -1,16 +1,11 @@
-use native.Mathlib.Omega.{arith}
-use Rattle.des.proofs.Groups.{choice_more, choice_none, choice_all}
+use Rattle.des.specs.declared.tables.TheConstants.{PC2_C_PARTS, PC2_D_PARTS}
+use Rattle.des.specs.Tables.{choice2}
+use Rattle.des.specs.Des.{selected}
+use Rattle.des.proofs.Holding.{parts_held}
+use Rattle.des.proofs.Groups.{subkey_is}
 use Rattle.des.proofs.choose_2.Goals as goal
 
-pub loop-i-init : goal.loop-i-init
-loop-i-init c = (omega arith, omega arith, λ p q held. choice_none _ p q c.requires.1)
-
-pub loop-i-preserved : goal.loop-i-preserved
-loop-i-preserved c = (
-  omega arith,
-  omega arith,
-  λ p q held. choice_more _ _ _ c.loop-i.i _ p q held (omega arith) c.part-r.ensures.0 (c.loop-i.invariant.2 p q held),
-)
-
 pub returns : goal.returns
-returns c = (omega arith, λ p q held. choice_all _ _ c.loop-i.i p q (omega arith) (c.loop-i.invariant.2 p q held))
+unfolding choice2 selected
+returns c =
+    subkey_is _ _ _ _ c.requires.1 (c.choose_half.ensures.1 28 24 (parts_held 56 choice2 7 28 24 PC2_C_PARTS tt)) (c.choose_half-2.ensures.1 0 0 (parts_held 56 choice2 7 0 0 PC2_D_PARTS tt))

@@ -1,9 +1,6 @@
-use mathlib.Core.Path.{◌∙◌}
-use Rattle.des.specs.Des.{selected}
-use Rattle.des.specs.Tables.{initial}
-use Rattle.des.proofs.Select.{rows, none, next}
+use Rattle.std.proofs.Common.{arith}
+use Rattle.des.proofs.Holding.{places_held}
 use Rattle.des.proofs.permute_initial.Goals as goal
 
-pub returns : goal.returns
-unfolding initial selected
-returns c = c.eight.ensures ∙ rows 64 _ 0 {t = initial} (next c.row.ensures (next c.row-2.ensures (next c.row-3.ensures (next c.row-4.ensures (next c.row-5.ensures (next c.row-6.ensures (next c.row-7.ensures (next c.row-8.ensures none))))))))
+pub select-requires : goal.select-requires
+select-requires c = places_held 64 _ (omega arith) (omega arith) tt

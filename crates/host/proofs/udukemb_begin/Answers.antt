@@ -1,3 +1,4 @@
+use mathlib.Core.Path.{refl, ◌∙◌}
 use native.Mathlib.Omega.{arith}
 use Rattle.octets.specs.Laws.{count}
 use Rattle.host.proofs.Laws.{begin_short, begin_none, begin_made, walk_told}
@@ -9,8 +10,10 @@ returns-then-walk-ne-WALK_LENGTH c = walk_told (begin_short _ _ _ _ c.if-walk-ne
 pub slice_bounds-read_record-end-2 : goal.slice_bounds-read_record-end-2
 slice_bounds-read_record-end-2 c = count 295 c.args.walk.now (omega (arith, c.if-walk-ne-WALK_LENGTH.false))
 
-pub returns-then-read-ne-DONE : goal.returns-then-read-ne-DONE
-returns-then-read-ne-DONE c = walk_told (begin_none _ _ _ _ c.if-walk-ne-WALK_LENGTH.false c.read_record-read.ensures c.if-read-ne-DONE.true c.close_walk.ensures)
+pub returns-in-Err : goal.returns-in-Err
+returns-in-Err c =
+    let w = walk_told (begin_none _ _ _ _ c.if-walk-ne-WALK_LENGTH.false c.read_record.ensures c.in-Err.is refl c.close_walk.ensures) in
+    (c.unopened.ensures ∙ w.0, w.1)
 
 pub returns : goal.returns
-returns c = walk_told (begin_made _ _ _ _ c.if-walk-ne-WALK_LENGTH.false c.read_record-read.ensures c.if-read-ne-DONE.false c.begin-begun.ensures c.put_walk.ensures)
+returns c = walk_told (begin_made _ _ _ _ c.if-walk-ne-WALK_LENGTH.false c.read_record.ensures c.in-Ok.is c.begin-begun.ensures c.put_walk.ensures)

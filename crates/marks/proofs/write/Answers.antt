@@ -1,46 +1,24 @@
-use mathlib.Core.Path.{ap}
-use mathlib.Core.Bool.{not}
-use native.Mathlib.Omega.{arith}
-use Rattle.marks.specs.Inner.{Begins}
-use Rattle.marks.proofs.Laws.{Whole}
-use Rattle.marks.proofs.InnerLaws.{begins_told, write_ill, write_faulty, list_length, write_short, write_done}
-use borrow.Author.Rules.{rules}
+use Rattle.std.proofs.Common.{rules, ◌≡◌, ◌∙◌, refl, arith, Err}
+use Rattle.marks.proofs.InnerLaws.{write_ill, write_faulty, list_length, write_short, write_done}
 use Rattle.marks.proofs.write.Goals as goal
 
 pub returns-then-not-begins : goal.returns-then-not-begins
-returns-then-not-begins c =
-    let a = c.args in
-    write_ill a.start a.tape.now a.out.now c.begins.ensures (ap not c.if-not-begins.true) c.refused.ensures
+returns-then-not-begins c = write_ill c.args.start c.args.tape.now c.args.out.now c.begins.ensures.is c.if-not-begins.true
 
--- the record that it begins with: a walk may, and it has the sizes of the code's struct
-pub compared-walked-requires : goal.compared-walked-requires
-compared-walked-requires c = begins_told _ c.begins.ensures (ap not c.if-not-begins.false)
-
-pub returns-then-walked-ne-DONE : goal.returns-then-walked-ne-DONE
-returns-then-walked-ne-DONE c =
-    let a = c.args in
-    let begun : Begins a.start = begins_told _ c.begins.ensures (ap not c.if-not-begins.false) in
-    write_faulty a.start a.tape.now a.out.now a.out.now begun c.compared-walked.ensures.0 c.if-walked-ne-DONE.true c.refused-then-walked-ne-DONE.ensures
+pub returns-in_err-walked : goal.returns-in_err-walked
+returns-in_err-walked c =
+    let is : c.from_residual.result ≡ Err c.in_err-walked.field-0.0 = search rules in
+    let all = write_faulty c.args.start c.args.tape.now c.args.out.now (c.if-not-begins.ensures.told refl) c.in_err-walked.ensures.is in
+    (is ∙ all.0, all.1)
 
 pub returns-then-out-length : goal.returns-then-out-length
-returns-then-out-length c =
-    let a = c.args in
-    let begun : Begins a.start = begins_told _ c.begins.ensures (ap not c.if-not-begins.false) in
-    let whole : Whole a.start = (begun.0, begun.1, (search rules, search rules, search rules, (search rules, search rules, search rules))) in
-    write_short a.start a.tape.now a.out.now a.out.now begun c.compared-walked.ensures.0 whole c.if-walked-ne-DONE.false c.if-out-length.true
-    c.refused-then-out-length.ensures
+returns-then-out-length c = write_short c.args.start c.args.tape.now c.args.out.now (c.if-not-begins.ensures.told refl) c.in_ok-walked.ensures.is c.if-out-length.true
 
 pub put_marks-requires : goal.put_marks-requires
 put_marks-requires c =
-    let a = c.args in
-    let begun : Begins a.start = begins_told _ c.begins.ensures (ap not c.if-not-begins.false) in
-    let whole : Whole a.start = (begun.0, begun.1, (search rules, search rules, search rules, (search rules, search rules, search rules))) in
-    (begun, omega (arith, c.if-out-length.false, list_length a.start a.tape.now a.out.now a.out.now begun c.compared-walked.ensures.0 whole c.if-walked-ne-DONE.false))
+    let begun = c.if-not-begins.ensures.told refl in
+    (begun, omega (arith, c.if-out-length.false, list_length c.args.start c.args.tape.now c.args.out.now begun c.in_ok-walked.ensures.is))
 
 pub returns : goal.returns
 returns c =
-    let a = c.args in
-    let begun : Begins a.start = begins_told _ c.begins.ensures (ap not c.if-not-begins.false) in
-    let whole : Whole a.start = (begun.0, begun.1, (search rules, search rules, search rules, (search rules, search rules, search rules))) in
-    write_done a.start a.tape.now a.out.now a.out.now begun c.compared-walked.ensures.0 whole c.if-walked-ne-DONE.false c.if-out-length.false
-    c.put_marks.ensures
+    write_done c.args.start c.args.tape.now c.args.out.now (c.if-not-begins.ensures.told refl) c.in_ok-walked.ensures.is c.if-out-length.false c.put_marks.ensures

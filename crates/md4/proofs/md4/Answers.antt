@@ -1,8 +1,8 @@
-use Rattle.md4.proofs.Laws.{too_long, digested}
+use Rattle.octets.specs.declared.Order.TheVariants.{LowestFirst}
+use Rattle.blocks.specs.Laws.{digested}
+use Rattle.md4.specs.Md4.{initial, compress, octets_in, md4, md4_answer}
 use Rattle.md4.proofs.md4.Goals as goal
 
-pub returns-then-text-gt-LONGEST_TEXT : goal.returns-then-text-gt-LONGEST_TEXT
-returns-then-text-gt-LONGEST_TEXT c = too_long _ c.if-text-gt-LONGEST_TEXT.true
-
 pub returns : goal.returns
-returns c = digested _ c.hashed.ensures c.octets_in.ensures c.if-text-gt-LONGEST_TEXT.false
+unfolding md4_answer md4
+returns c = digested compress LowestFirst initial octets_in _ c.initial.ensures c.in_ok-closed.ensures c.octets_in.ensures

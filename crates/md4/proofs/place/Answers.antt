@@ -1,6 +1,6 @@
-use mathlib.Core.Path.{refl}
-use Rattle.md4.proofs.Laws.{placed}
+use Rattle.std.proofs.Common.{refl}
+use Rattle.md4.proofs.Laws.{place_is}
 use Rattle.md4.proofs.place.Goals as goal
 
 pub returns : goal.returns
-returns c = placed _ c.of_round-digits.ensures refl c.requires
+returns c = place_is _ c.requires refl

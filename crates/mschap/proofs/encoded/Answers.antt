@@ -1,27 +1,21 @@
-use mathlib.Core.Path.{sym, ◌∙◌}
-use native.Mathlib.Omega.{arith}
-use borrow.Author.Rules.{rules}
+use Rattle.std.proofs.Common.{◌<◌, length, ◌≡◌, arith, rules}
 use Rattle.mschap.specs.Mschap.{encoded as text, hex_digits}
 use Rattle.mschap.proofs.InnerLaws.{encoded_more, encoded_all}
 use Rattle.mschap.proofs.encoded.Goals as goal
 
 pub loop-i-init : goal.loop-i-init
 unfolding hex_digits text
-loop-i-init c = (omega arith, search rules, c.copy.ensures)
-
-pub slice_bounds-copy_at-end-in-loop-i : goal.slice_bounds-copy_at-end-in-loop-i
-slice_bounds-copy_at-end-in-loop-i c = sym c.loop-i.invariant.1
+loop-i-init c = rw c.copy_from_slice.ensures.after
 
 pub loop-i-preserved : goal.loop-i-preserved
 loop-i-preserved c =
-    let l = c.loop-i in (
-      omega arith,
-      c.copy_at.auto.to ∙ l.invariant.1,
-      encoded_more c.args.digest.now l.i l.invariant.2 c.two_digits-digits.ensures c.copy_at.ensures
-          (omega (arith, c.requires)) (omega arith),
-    )
+    let l = c.loop-i in
+    let size : length c.args.digest.now ≡ 20 = search rules in
+    let here : l.i < 20 = omega arith in
+    encoded_more c.args.digest.now l.i _ _ l.invariant (omega arith) here c.digit.ensures c.digit-in-loop-i.ensures
 
 pub returns : goal.returns
 returns c =
     let l = c.loop-i in
-    encoded_all c.args.digest.now l.i l.invariant.2 (omega arith) c.requires
+    let size : length c.args.digest.now ≡ 20 = search rules in
+    encoded_all c.args.digest.now l.i l.invariant (omega arith) size

@@ -1,8 +1,6 @@
-use Rattle.mschap_packets.proofs.InnerLaws.{long_name, no_room, packet_written}
+use Rattle.std.proofs.Common.{◌≡◌, ap, ◌∙◌, length, drop}
+use Rattle.mschap_packets.proofs.InnerLaws.{no_room, packet_written}
 use Rattle.mschap_packets.proofs.write.Goals as goal
-
-pub returns-then-name-gt-LONGEST_NAME : goal.returns-then-name-gt-LONGEST_NAME
-returns-then-name-gt-LONGEST_NAME c = long_name _ _ _ c.if-name-gt-LONGEST_NAME.true
 
 pub returns-then-out-length : goal.returns-then-out-length
 returns-then-out-length c =
@@ -10,5 +8,10 @@ returns-then-out-length c =
 
 pub returns : goal.returns
 returns c =
-    packet_written _ _ _ _ _ c.requires c.if-name-gt-LONGEST_NAME.false c.least_length-least.ensures.0 c.if-out-length.false
-    c.header.ensures c.copy.ensures c.copy_at.ensures c.copy_at-2.ensures
+    let value = c.args.value.now in
+    let name = c.args.name.now in
+    let back : c.split_at_mut-front.result.1.now ≡ drop (length value) (drop 5 c.args.out.now) =
+    c.split_at_mut-front.ensures.back ∙ ap (drop (length value)) c.split_at_mut-head.ensures.back in
+    let written = packet_written _ _ _ _ c.args.out.now c.requires c.if-name-gt-LONGEST_NAME.false c.least_length-least.ensures.0
+    c.if-out-length.false (c.copy_from_slice.ensures.after ∙ c.header.ensures) (ap (drop (length name)) back) in
+    rw (c.copy_from_slice-2.ensures.after, c.copy_from_slice-3.ensures.after) written

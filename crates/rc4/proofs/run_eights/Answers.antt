@@ -9,7 +9,7 @@ use Rattle.rc4.proofs.run_eights.Goals as goal
 pub loop-k-init : goal.loop-k-init
 loop-k-init c =
     let p = c.requires.0 in
-    (begun _ _ _ _ _ p.whole p.room, refl, omega arith, omega arith, first_same c.args.cells.now c.args.i _ c.first_cell-x.ensures (omega arith))
+    (begun _ _ _ _ _ p.whole p.room, omega arith, first_same c.args.cells.now c.args.i (c.args.i + 8 * 0) refl (omega arith))
 
 pub draw_eight-e-requires : goal.draw_eight-e-requires
 draw_eight-e-requires c =
@@ -17,7 +17,7 @@ draw_eight-e-requires c =
     let i = c.args.i in
     let h : 0 < length c.args.text.now = omega arith in
     let at = eight_place i l.k (c.requires.2 h) in
-    (l.invariant.0.whole, omega arith, omega arith, first_same l.cells (i + 8 * l.k) _ l.invariant.4 (omega arith))
+    (l.invariant.0.whole, omega arith, omega arith, first_same l.cells (i + 8 * l.k) _ l.invariant.2 (omega arith))
 
 pub loop-k-preserved : goal.loop-k-preserved
 loop-k-preserved c =
@@ -34,8 +34,6 @@ loop-k-preserved c =
     let eight : n + 8 - n ≡ 8 = omega arith in
     let count : 8 * (l.k + 1) ≡ n + 8 = omega arith in (
       more_eight (n + 8 - n) l.invariant.0 (rw same at e.0) (rw (on, same) at e.1) e.2 c.xor_eight.ensures eight count h,
-      l.invariant.1,
-      omega arith,
       omega arith,
       first_same c.draw_eight-e.new.cells (at + 8) _ e.4 on,
     )
@@ -43,4 +41,4 @@ loop-k-preserved c =
 pub returns : goal.returns
 returns c =
     let l = c.loop-k in
-    finished l.invariant.0 (omega arith) l.invariant.3
+    finished l.invariant.0 (omega arith) l.invariant.1

@@ -1,22 +1,15 @@
-use mathlib.Core.Path.{◌≡◌, refl, ◌∙◌}
+use mathlib.Core.Path.{sym, ◌∙◌}
 use native.Mathlib.Omega.{arith}
-use lib.ListN.{length, length-set}
-use Rattle.rc4.proofs.Runs.{xors_more, xors_all}
+use Rattle.rc4.specs.Inner.{xors}
 use borrow.Author.Rules.{rules}
+use Rattle.rc4.proofs.Made.{made, length_xors, xors_at}
 use Rattle.rc4.proofs.xor_eight.Goals as goal
-
-pub loop-k-init : goal.loop-k-init
-loop-k-init c = (omega arith, refl, refl)
-
-pub loop-k-preserved : goal.loop-k-preserved
-loop-k-preserved c =
-    let l = c.loop-k in
-    let a = c.args in
-    let q : length a.octets ≡ 8 = search rules in
-    (omega arith, simp length-set l.invariant.1, xors_more a.text.now a.octets l.both l.k l.invariant.2 (omega arith) (omega arith) (omega arith))
 
 pub returns : goal.returns
 returns c =
-    let l = c.loop-k in
-    let a = c.args in
-    c.put_eight.ensures ∙ xors_all a.text.now a.octets l.both l.k l.invariant.2 (omega arith) (omega arith)
+    let text = c.args.text.now in
+    let octets = c.args.octets.now in
+    let long = c.told-octets in
+    c.copy_from_slice.ensures.after
+    ∙ made _ _ (xors text octets) 8 (length_xors text octets (omega arith) ∙ c.requires.0)
+    (λ i y q h call. (search rules, (search rules) ∙ sym (xors_at text octets i (omega arith) (omega arith)))) c.from_fn-both.ensures.items

@@ -1,7 +1,10 @@
+use Rattle.std.proofs.Common.{refl}
+use Rattle.sha256.specs.Sha256.{k}
 use Rattle.sha256.proofs.Laws.{rounded}
 use Rattle.sha256.proofs.round.Goals as goal
 
 pub returns : goal.returns
+unfolding k
 returns c =
-    rounded _ _ _ c.requires.1 c.add.ensures c.add-2.ensures c.add-3.ensures c.big_sigma.ensures c.add-t1.ensures
-    c.big_sigma-2.ensures c.add-t2.ensures c.add-4.ensures c.add-5.ensures
+    rounded c.args.w.now c.args.t c.args.s c.ch-chosen.ensures c.maj-majority.ensures c.big_sigma.ensures c.big_sigma-2.ensures
+    refl refl refl

@@ -1,10 +1,8 @@
-use Rattle.sha256.proofs.Laws.{digest_is, too_long, digested}
+use Rattle.octets.specs.declared.Order.TheVariants.{HighestFirst}
+use Rattle.blocks.specs.Laws.{digested}
+use Rattle.sha256.specs.Sha256.{initial, compress, octets_in, sha256, sha256_answer}
 use Rattle.sha256.proofs.sha256.Goals as goal
 
-pub returns-then-text-gt-LONGEST_TEXT : goal.returns-then-text-gt-LONGEST_TEXT
-returns-then-text-gt-LONGEST_TEXT c = too_long _ c.if-text-gt-LONGEST_TEXT.true c.refused.ensures
-
 pub returns : goal.returns
-returns c =
-    let digest = digest_is _ c.initial.ensures c.closed.ensures c.octets_in.ensures in
-    digested _ digest c.if-text-gt-LONGEST_TEXT.false
+unfolding sha256_answer sha256
+returns c = digested compress HighestFirst initial octets_in _ c.initial.ensures c.in_ok-closed.ensures c.octets_in.ensures

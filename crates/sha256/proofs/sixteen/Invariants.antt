@@ -1,11 +1,7 @@
-use mathlib.Core.Path.{◌≡◌}
-use Prim.Native.Nat.{◌≤◌, ◌*◌, ◌-◌}
+use Rattle.std.proofs.Common.{◌≡◌, ◌*◌}
 use Rattle.blocks.specs.Blocks.{rounds}
 use Rattle.sha256.specs.Sha256.{round}
 use Rattle.sha256.proofs.sixteen.Given as goal
 
 abbrev pub invariant-loop-i : goal.invariant-loop-i
-invariant-loop-i l = (l.i ≤ 16) × (l.x ≡ rounds (round l.w) (16 * l.q) l.i l.initial.x)
-
-abbrev pub decreases-loop-i : goal.decreases-loop-i
-decreases-loop-i l = 16 - l.i
+invariant-loop-i l = l.x ≡ rounds (round l.w) (16 * l.q) l.i l.initial.x

@@ -1,6 +1,8 @@
-use mathlib.Core.Path.{refl}
-use Rattle.sha256.proofs.Laws.{three}
+use Rattle.blocks.specs.Laws.{rotated_right}
 use Rattle.sha256.proofs.small_sigma.Goals as goal
 
 pub returns : goal.returns
-returns c = three _ _ _ c.rotr.ensures c.rotr-2.ensures refl
+returns c =
+    let a = c.args in
+    let (i, i', j, j', _) = c.requires in
+    rw (c.rotate_right.ensures, c.rotate_right-2.ensures, rotated_right a.i a.x i i', rotated_right a.j a.x j j')

@@ -1,8 +1,8 @@
-use Rattle.sha_1.proofs.Laws.{too_long, digested}
+use Rattle.octets.specs.declared.Order.TheVariants.{HighestFirst}
+use Rattle.blocks.specs.Laws.{digested}
+use Rattle.sha_1.specs.Sha1.{initial, compress, octets_in, sha1, sha1_answer}
 use Rattle.sha_1.proofs.sha1.Goals as goal
 
-pub returns-then-text-gt-LONGEST_TEXT : goal.returns-then-text-gt-LONGEST_TEXT
-returns-then-text-gt-LONGEST_TEXT c = too_long _ c.if-text-gt-LONGEST_TEXT.true
-
 pub returns : goal.returns
-returns c = digested _ c.hashed.ensures c.octets_in.ensures c.if-text-gt-LONGEST_TEXT.false
+unfolding sha1_answer sha1
+returns c = digested compress HighestFirst initial octets_in _ c.initial.ensures c.in_ok-closed.ensures c.octets_in.ensures

@@ -1,10 +1,6 @@
-use Prim.Native.Nat.{◌≤◌}
 use Rattle.tape.specs.Tape.{most_groups}
 use Rattle.tape.proofs.InnerLaws.{Said}
 use Rattle.tape.proofs.length_in.Given as goal
 
 abbrev pub invariant-loop-i : goal.invariant-loop-i
-invariant-loop-i l = (l.i ≤ most_groups) × Said most_groups l.rest l.i l.n
-
-abbrev pub decreases-loop-i : goal.decreases-loop-i
-decreases-loop-i l = l.i
+invariant-loop-i l = Said most_groups l.rest l.i l.n

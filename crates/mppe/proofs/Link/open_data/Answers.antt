@@ -1,39 +1,31 @@
-use native.Mathlib.Omega.{arith}
 use Rattle.mppe.specs.Link.{farthest}
-use Rattle.mppe.proofs.InnerLaws.{count_bound, data_waits, data_refused, data_passed, data_off, data_opened}
+use Rattle.mppe.proofs.InnerLaws.{data_waits, data_refused, data_passed, data_off, data_opened}
 use Rattle.mppe.proofs.Link.open_data.Goals as goal
 
-pub distance-away-requires : goal.distance-away-requires
-distance-away-requires c = (count_bound c.args.self c.requires.0, omega arith)
+pub returns-then-judged-eq-WAITING : goal.returns-then-judged-eq-WAITING
+returns-then-judged-eq-WAITING c =
+    data_waits farthest c.args.self c.args.header c.args.text.now c.args.out.now c.moved.ensures.1 c.judge_header-judged.ensures
+    c.if-judged-eq-WAITING.true c.moved.ensures.0 c.waited.ensures
 
-pub changes_over-changes-requires : goal.changes_over-changes-requires
-changes_over-changes-requires c = (count_bound c.args.self c.requires.0, omega (arith, c.distance-away.ensures))
+pub returns-then-judged-ne-DONE : goal.returns-then-judged-ne-DONE
+returns-then-judged-ne-DONE c =
+    data_refused farthest c.args.self c.args.header c.args.text.now c.args.out.now c.judge_header-judged.ensures c.if-judged-eq-WAITING.false
+    c.if-judged-ne-DONE.true c.refused.ensures
 
-pub returns-then-code-eq-WAITING : goal.returns-then-code-eq-WAITING
-returns-then-code-eq-WAITING c =
-    data_waits farthest c.args.self c.args.header c.args.text.now c.args.out.now c.moved-next.ensures.1 c.header_code-code.ensures c.if-code-eq-WAITING.true
-    (c.distance-away.ensures, c.changes_over-changes.ensures, c.moved-next.ensures.0) c.waited.ensures
-
-pub returns-then-code-ne-DONE : goal.returns-then-code-ne-DONE
-returns-then-code-ne-DONE c =
-    data_refused farthest c.args.self c.args.header c.args.text.now c.args.out.now c.distance-away.ensures c.header_code-code.ensures
-    c.if-code-eq-WAITING.false c.if-code-ne-DONE.true c.refused.ensures
-
-pub decipher-ran-requires : goal.decipher-ran-requires
-decipher-ran-requires c = (
+pub decipher-requires : goal.decipher-requires
+decipher-requires c = (
   c.requires.1,
   c.requires.2,
-  (data_passed farthest _ c.args.self c.args.header c.args.text.now _ c.header_code-code.ensures c.if-code-ne-DONE.false c.distance-away.ensures).0,
+  (data_passed farthest c.args.self c.args.header c.args.text.now _ c.judge_header-judged.ensures c.if-judged-ne-DONE.false).0,
 )
 
-pub returns-then-ran-ne-DONE : goal.returns-then-ran-ne-DONE
-returns-then-ran-ne-DONE c =
-    data_off farthest c.args.self c.args.header c.args.text.now c.args.out.now c.moved-next-2.ensures.1 c.header_code-code.ensures c.if-code-ne-DONE.false
-    (c.distance-away.ensures, c.changes_over-changes.ensures, c.moved-next-2.ensures.0) (c.lacks_a.ensures, c.either-fresh.ensures)
-    c.decipher-ran.ensures c.if-ran-ne-DONE.true c.refused-then-ran-ne-DONE.ensures
+pub returns-in_default : goal.returns-in_default
+returns-in_default c =
+    data_off farthest c.args.self c.args.header c.args.text.now c.args.out.now c.moved-next.ensures.1 c.judge_header-judged.ensures
+    c.if-judged-ne-DONE.false c.moved-next.ensures.0 (c.lacks_a.ensures, c.afresh.ensures) c.decipher.ensures c.in_default.is
+    c.refused-in_default.ensures
 
 pub returns : goal.returns
 returns c =
-    data_opened farthest c.args.self c.args.header c.args.text.now c.args.out.now c.moved-next-2.ensures.1 c.header_code-code.ensures c.if-code-ne-DONE.false
-    (c.distance-away.ensures, c.changes_over-changes.ensures, c.moved-next-2.ensures.0) (c.lacks_a.ensures, c.either-fresh.ensures)
-    c.decipher-ran.ensures c.if-ran-ne-DONE.false c.settled.ensures
+    data_opened farthest c.args.self c.args.header c.args.text.now c.args.out.now c.moved-next.ensures.1 c.judge_header-judged.ensures
+    c.if-judged-ne-DONE.false c.moved-next.ensures.0 (c.lacks_a.ensures, c.afresh.ensures) c.decipher.ensures c.in-Ok.is c.settled.ensures

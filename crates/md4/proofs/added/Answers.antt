@@ -1,4 +1,0 @@
-use Rattle.md4.proofs.added.Goals as goal
-
-pub returns : goal.returns
-returns c = cc
