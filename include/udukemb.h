@@ -37,16 +37,16 @@
  *       udukemb_binding_key              900
  *       udukemb_check_authenticator     1300
  *       udukemb_check_response          1200
- *       udukemb_end                     3500
- *       udukemb_feed                    5300
+ *       udukemb_end                     3100
+ *       udukemb_feed                    4900
  *       udukemb_marks_check             8600
- *       udukemb_marks_read              1700
+ *       udukemb_marks_read              1300
  *       udukemb_marks_write             9000
  *       udukemb_new_link                1000
  *       udukemb_nt_response             1200
  *       udukemb_open                    6900
  *       udukemb_option_reply             300
- *       udukemb_reset                   2100
+ *       udukemb_reset                   1700
  *       udukemb_seal                    5100
  *       udukemb_start_key                800
  *       udukemb_tape_begin               200

@@ -19,7 +19,7 @@ use mppe_pieces::Walk;
 use mppe_record::{bits_of, no_strength, read_record, record_octets, strength_of};
 use mppe_walk::{read_walk, walk_octets};
 
-// The number answered, and whether what was received is what it must be; a refusal is a no.
+// The number answered, and whether what was received is what it must be; a refusal is a no. In all these structs C is told the number.
 #[repr(C)]
 #[derive(Clone, Copy)]
 pub struct Check {

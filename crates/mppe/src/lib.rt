@@ -38,7 +38,7 @@ pub const FARTHEST: u16 = 2048;
 // The count of a new link, so that the first packet carries 0.
 const LAST_COUNT: u16 = 4095;
 
-// A link record. Its calls take any, and say which are well formed.
+// A link record. Its calls take any, and say which are well formed. It holds keys, so no `==` and no Debug, as in all that holds one.
 #[derive(Clone, Copy)]
 pub struct Link {
     pub strength: Strength,
@@ -66,7 +66,8 @@ pub struct Outcome {
     pub link: Link,
 }
 
-// What a record says of a packet before its data are there: the number answered, and the key changes that its count brings.
+// What a record says of a packet before its data are there: the number answered, and the key changes that its count brings, which a refusal
+// reports too: 11 is followed by them.
 #[derive(Clone, Copy, Debug, PartialEq, Eq)]
 pub struct Judged {
     pub answer: u8,

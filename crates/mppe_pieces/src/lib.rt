@@ -33,7 +33,8 @@ pub struct Walk {
     pub first: u8,
 }
 
-// What begin, feed and end give: the key changes reported, and the next walk, with the link record in it.
+// What begin, feed and end give: the key changes reported, and the next walk, with the link record in it. The number stays beside them, since a
+// refusal hands on a walk too.
 #[derive(Clone, Copy)]
 pub struct Step {
     pub answer: u8,

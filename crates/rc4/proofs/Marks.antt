@@ -6,18 +6,19 @@ use Prim.Native.Nat.{ℕ, zero, suc, ◌+◌, ◌<◌}
 use native.Mathlib.Numerals.{add-one}
 use native.Mathlib.Omega.{arith}
 use lib.Dec.{eqb}
-use lib.ListN.{length, length-set, take, set, get_or, get_or-replicate, replicate}
-use lib.Seq.{take_all, take-suc, get_or-set_same, get_or-set_other}
-use borrow.Author.Tests.{eq-eqb, eqb-true, eqb-false}
+use lib.ListN.{length, length-set, take, drop, set, get_or, get_or-replicate, replicate}
+use lib.Seq.{take_all, take-suc, drop-cons, drop-length, get_or-set_same, get_or-set_other}
+use borrow.Author.Tests.{eq-eqb, ne_eqb, eqb-true, eqb-false}
 use Rattle.std.proofs.lemmas.Bool.Decides.{same_from_decides}
+use Rattle.std.specs.List.{list_all}
+use Rattle.std.proofs.lemmas.List.Recursion.{same_from_clauses}
 use Rattle.std.specs.Cmp.Lexicographic.{pointwise}
 use Rattle.std.proofs.lemmas.List.{ext_get_or}
 use Rattle.std.proofs.lemmas.Slice.Eq.{bytes_eq-Decides}
 use Rattle.answer.specs.Laws.{both}
-use Rattle.rc4.specs.declared.Rc4.{Rc4}
-use Rattle.rc4.specs.Cipher.{among, all_among, permutation, unkeyed, is_unkeyed}
+use Rattle.rc4.specs.Cipher.{among, all_among, permutation, in_order}
 use Rattle.rc4.specs.Inner.{mark, Marked}
-use Rattle.rc4.proofs.Permutation.{among_same, unkeyed_is, unkeyed_found}
+use Rattle.rc4.proofs.Permutation.{among_same}
 
 -- no cell is looked at
 pub marks_none : Marked [] (replicate 256 0)
@@ -81,17 +82,31 @@ permutation_told {r} cells marks long (size, marks-are) e =
         set_mark true one = refl
         set_mark false one = absurd (omega arith)
 
--- and a state to be the unkeyed one where it equals it
-pub unkeyed_told : {r : Bool} (s u : Rc4) → u ≡ unkeyed → r ≡ pointwise eqb s.cells u.cells && (eqb s.i u.i && eqb s.j u.j) → r ≡ is_unkeyed s
-unkeyed_told {r} s u eu er = same_from_decides r (is_unkeyed s) (told, found) (unkeyed_is s, λ e. rw e unkeyed_found)
-  where
-    told : r ≡ true → s ≡ unkeyed
-    told h =
-        let (cells, indices) = both (pointwise eqb s.cells u.cells) (eqb s.i u.i && eqb s.j u.j) (sym er ∙ h) in
-        let (same_i, same_j) = both (eqb s.i u.i) (eqb s.j u.j) indices in
-        rw ((bytes_eq-Decides s.cells u.cells).0 cells, eqb-true s.i u.i same_i, eqb-true s.j u.j same_j) eu
+-- all marks are set where they equal as many that are
+pub ones_are : (marks : List ℕ) → list_all (λ x. eqb x 1) marks ≡ pointwise eqb marks (replicate (length marks) 1)
+ones_are marks =
+    same_from_clauses (list_all (λ x. eqb x 1)) (λ xs. pointwise eqb xs (replicate (length xs) 1)) (λ x r. eqb x 1 && r) refl (λ _ _. refl) (λ _ _. refl) marks
 
-    found : s ≡ unkeyed → r ≡ true
-    found e =
-        let same : s ≡ u = e ∙ sym eu in
-        er ∙ rw (same, (bytes_eq-Decides u.cells u.cells).1 refl, eq-eqb u.i u.i refl, eq-eqb u.j u.j refl)
+pub marked_told : {r : Bool} (cells marks : List ℕ) → length cells ≡ 256 → Marked cells marks → r ≡ pointwise eqb marks (replicate (length marks) 1)
+    → r ≡ permutation cells
+unfolding Marked
+marked_told cells marks long are e = permutation_told cells marks long are (rw are.0 at e)
+
+-- cells in order up to a place: one that is out of order there, one that is not, and the end
+one_more : (cells : List ℕ) (n : ℕ) → n < length cells → in_order n (drop n cells) ≡ eqb (get_or cells n 0) n && in_order (n + 1) (drop (n + 1) cells)
+unfolding in_order
+one_more cells n h = rw (drop-cons cells n 0 h, add-one n)
+
+pub order_other : (cells : List ℕ) (n : ℕ) → n < length cells → in_order n (drop n cells) ≡ in_order 0 cells → (get_or cells n 0 ≡ n → ⊥)
+    → false ≡ in_order 0 cells
+order_other cells n h e other = rw (one_more cells n h, ne_eqb (get_or cells n 0) n other) at e
+
+pub order_more : (cells : List ℕ) (n : ℕ) → n < length cells → in_order n (drop n cells) ≡ in_order 0 cells → get_or cells n 0 ≡ n
+    → in_order (n + 1) (drop (n + 1) cells) ≡ in_order 0 cells
+order_more cells n h e same = rw (one_more cells n h, eq-eqb (get_or cells n 0) n same) at e
+
+pub order_all : (cells : List ℕ) (n : ℕ) → length cells ≡ 256 → n ≡ 256 → in_order n (drop n cells) ≡ in_order 0 cells → true ≡ in_order 0 cells
+unfolding in_order
+order_all cells n long end e =
+    let none : drop 256 cells ≡ [] = rw (← long) (drop-length cells) in
+    rw (end, none) at e

@@ -5,7 +5,7 @@ ghost use Rattle.std.specs.Prelude.{◌≡◌, true, ◌&&◌, ◌+◌, ◌%◌,
 ghost use Rattle.answer.specs.Answer.{done, protocol, pick, first_of, result_of};
 ghost use Rattle.answer.specs.declared.Refusal.{Refusal};
 ghost use Rattle.octets.specs.Octets.{written, longest_text};
-ghost use Rattle.rc4.specs.Cipher.{below, permutation, unkeyed, is_unkeyed, swap, rounds, step, drawn, run, after};
+ghost use Rattle.rc4.specs.Cipher.{below, permutation, unkeyed, in_order, is_unkeyed, swap, rounds, step, drawn, run, after};
 ghost use Rattle.rc4.specs.Answers.{keyed_answer, draw_answer, run_answer, run_out, apply_answer, apply_out, key_code, number, number_code, text_rows, numbered_rows, keyed_if, within_answer, within_out};
 ghost use Rattle.rc4.specs.Inner.{wrapped, first_cell, xors, OctetCells, Ready, Finished, Marked};
 
@@ -19,8 +19,8 @@ pub const LONGEST_KEY: usize = 256;
 // The octets of a number in front of a text.
 const NUMBER: usize = 2;
 
-// The box and both indices. Any octets are a state.
-#[derive(Clone, Copy, PartialEq, Eq)]
+// The box and both indices. Any octets are a state. A secret, so no `==`, whose time tells where two differ, and no Debug.
+#[derive(Clone, Copy)]
 pub struct Rc4 {
     pub cells: [u8; 256],
     pub i: u8,
@@ -107,7 +107,7 @@ impl Rc4 {
     pub fn is_permutation(self) -> bool
         ensures { result ≡ permutation self.cells }
     {
-        marked(&self.cells) == [1; 256]
+        marked(&self.cells).iter().all(|mark| *mark == 1)
     }
 
     // The state that a key schedule starts from: 0 to 255 in order, both indices 0.
@@ -122,10 +122,11 @@ impl Rc4 {
     }
 
     // Whether it is that state.
+    #[tactic(auto, unfolding(crate::specs::Cipher::is_unkeyed))]
     pub fn is_unkeyed(self) -> bool
         ensures { result ≡ is_unkeyed self }
     {
-        self == Rc4::unkeyed()
+        self.i == 0 && self.j == 0 && in_order(&self.cells)
     }
 }
 
@@ -441,6 +442,19 @@ fn narrow(words: &[u32; 256]) -> [u8; 256]
     ensures { result ≡ words.now }
 {
     array::from_fn(|n| (words[n] % 256) as u8)
+}
+
+// Whether the cells are the numbers 0 to 255, in order. One by one: a box to compare with by `==` took 512 octets of stack, and twice the time.
+#[tactic(auto, using(crate::proofs::Marks::order_other, crate::proofs::Marks::order_more, crate::proofs::Marks::order_all))]
+fn in_order(cells: &[u8; 256]) -> bool
+    ensures { result ≡ in_order 0 cells.now }
+{
+    for (n, x) in cells.iter().enumerate() {
+        if usize::from(*x) != n {
+            return false;
+        }
+    }
+    true
 }
 
 // A mark for each number that stands in one of the cells, an octet each: `==` takes twice as long over bools.
