@@ -6,16 +6,20 @@ ghost use Rattle.sha256.specs.Inner.{block_answer, behind_answer};
 use crate::{initial, octets_in, sha256};
 use answer::Refusal;
 use blocks::BlockState;
+use octets::LONGEST_TEXT;
 
 // The inner and the outer pad.
 const IPAD: u8 = 0x36;
 
 const OPAD: u8 = 0x5C;
 
-// The code of a key and a text of 0 to 65,535 octets each; longer ones are refused.
+// The code of a key and a text of 0 to 65,535 octets each; longer ones are refused, before any octet is hashed.
 pub fn hmac_sha256(key: &[u8], text: &[u8]) -> Result<[u8; 32], Refusal>
     ensures { result ≡ hmac_answer key.now text.now }
 {
+    if LONGEST_TEXT < text.len() {
+        return Err(Refusal::Size);
+    }
     let block = key_block(key)?;
     let inner = digest_behind(xored(block, IPAD), text)?;
     digest_behind(xored(block, OPAD), &inner)
