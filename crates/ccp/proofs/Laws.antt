@@ -3,9 +3,9 @@ use Rattle.std.specs.Prelude.{◌≡◌, refl, Bool, true, false, not, List, [],
 use Rattle.std.proofs.Common.{ap, ◌∙◌, inl, inr, arith, eqb-true}
 use Rattle.std.proofs.lemmas.Bool.{false≢true}
 use Rattle.answer.specs.declared.Refusal.{Refusal}
-use Rattle.answer.specs.Answer.{done, shape, strength, pick, wrong, first_of, on_done, number_of, result_of}
+use Rattle.answer.specs.Answer.{done, shape, strength, pick, wrong, first_of, on_done, number_of, value_of, result_of}
 use Rattle.answer.specs.Laws.{number_first, ok_only, err_only}
-use Rattle.octets.specs.Octets.{pair_at}
+use Rattle.octets.specs.Octets.{pair_at, word_be}
 use Rattle.mppe_keys.specs.Keys.{bits_of}
 use Rattle.mppe_keys.specs.declared.Strength.{Strength}
 use Rattle.mppe_keys.specs.declared.Strength.TheVariants.{Bits40, Bits56, Bits128}
@@ -17,7 +17,7 @@ use Rattle.ccp.specs.declared.Choice.{Choice}
 use Rattle.ccp.specs.declared.Reply.TheVariants.{Accept, CounterOffer}
 use Rattle.ccp.specs.Option.{option_length, mode_of, strengths_of, word_of, option_octets, none_of, strongest, choice_word}
 use Rattle.ccp.specs.Reset.{reset_request, reset_length, reset_octets, reset_rows, reset_code, reset_answer, write_reset_code, write_reset_out}
-use Rattle.ccp.specs.Answers.{read_code, supported_bits, read_answer, write_code, write_out, usable, reply_code, replied_word, chosen, reply_with, reply_answer, reply_word}
+use Rattle.ccp.specs.Answers.{read_code, supported_bits, read_answer, no_offer, write_code, write_out, usable, reply_code, replied_word, chosen, reply_with, reply_answer, reply_word}
 
 -- what is written reads back to the same mode and strengths
 reads_back : (mode : Mode) (bits40 bits56 bits128 : Bool)
@@ -46,6 +46,22 @@ pub written_reads_back : (mode : Mode) (s : Strengths) (out : List ℕ) → writ
     → ◌≡◌ {A = Result Offer Refusal} (read_answer (take option_length (write_out mode s out))) (Ok (record { mode = mode; strengths = s }))
 unfolding write_out option_octets
 written_reads_back mode s out e = rw e (reads_back mode s.bits40 s.bits56 s.bits128)
+
+-- what supported bits offer
+abbrev offer_of : ℕ → Offer
+offer_of word = record { mode = mode_of word; strengths = strengths_of word }
+
+-- what a refused option reads as is the mode and the strengths of its supported bits, the word 0
+pub refused_offer : (option : List ℕ)
+    → ◌≡◌ {A = Offer}
+    (value_of no_offer (read_answer option))
+    (record { mode = mode_of (supported_bits option); strengths = strengths_of (supported_bits option) })
+unfolding read_answer supported_bits mode_of strengths_of
+refused_offer option = go (read_code option)
+  where
+    go : (n : ℕ) → value_of no_offer (result_of n (offer_of (on_done n (word_be option 2) 0))) ≡ offer_of (on_done n (word_be option 2) 0)
+    go zero = refl
+    go (suc n) = refl
 
 -- a reply with a choice, case by case: its word, an accept's, and what either carries
 word_replied : (n : ℕ) (t : Bool) (c : Choice) → reply_word (result_of n (pick t (Accept c) (CounterOffer c))) ≡ on_done n (choice_word c) 0

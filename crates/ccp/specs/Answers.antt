@@ -1,10 +1,10 @@
 -- What the calls answer (01, "Numbers a call may answer" and "The option").
-use Rattle.std.specs.Prelude.{Bool, not, List, [], ◌∷◌, ℕ, eqb, ltb, length, get_or, Result, Ok, Err}
+use Rattle.std.specs.Prelude.{Bool, false, not, List, [], ◌∷◌, ℕ, eqb, ltb, length, get_or, Result, Ok, Err}
 use Rattle.answer.specs.declared.Refusal.{Refusal}
 use Rattle.answer.specs.Answer.{done, shape, room, strength, pick, first_of, on_done, wrong, result_of}
 use Rattle.octets.specs.Octets.{written, word_be}
 use Rattle.mppe_keys.specs.declared.Mode.{Mode}
-use Rattle.mppe_keys.specs.declared.Mode.TheVariants.{Stateless}
+use Rattle.mppe_keys.specs.declared.Mode.TheVariants.{Stateless, Stateful}
 use Rattle.ccp.specs.declared.Strengths.{Strengths}
 use Rattle.ccp.specs.declared.Offer.{Offer}
 use Rattle.ccp.specs.declared.Choice.{Choice}
@@ -29,6 +29,10 @@ supported_bits option = on_done (read_code option) (word_be option 2) 0
 unfoldable pub read_answer : List ℕ → Result Offer Refusal
 read_answer option =
     result_of (read_code option) (record { mode = mode_of (supported_bits option); strengths = strengths_of (supported_bits option) })
+
+-- what a refused option has in its place: it has no bit, so it offers no strength and its mode is that of bit H at 0
+abbrev pub no_offer : Offer
+no_offer = record { mode = Stateful; strengths = record { bits40 = false; bits56 = false; bits128 = false } }
 
 -- the number for a lent buffer
 abbrev pub write_code : List ℕ → ℕ

@@ -1,18 +1,19 @@
 -- What follows from the definitions alone: the lengths of all results, what a call within its limits answers, and what a check says.
-use Rattle.std.specs.Prelude.{◌≡◌, Ok, Err, refl, Bool, true, false, ◌||◌, List, [], ◌∷◌, ◌++◌, ℕ, ◌*◌, ◌%◌, ◌≤◌, eqb, ltb, length, take, drop}
+use Rattle.std.specs.Prelude.{◌≡◌, Ok, Err, refl, Bool, true, false, ◌||◌, List, [], ◌∷◌, ◌++◌, ℕ, ◌*◌, ◌%◌, ◌≤◌, eqb, ltb, length, take, drop, replicate}
 use Rattle.std.proofs.Common.{sym, ap, ◌∙◌, true≢false, arith, length-append, length-take-le, le-ltb, eq-eqb}
 use Rattle.std.proofs.Math.Bool.{or_assoc, or-true}
 use Rattle.answer.specs.declared.Refusal.TheVariants.{Domain}
-use Rattle.answer.specs.Answer.{done, size, domain, number_of, pick, wrong, first_of, result_of}
-use Rattle.answer.specs.Laws.{right, never, listed, numbered, number_first, ok_only}
+use Rattle.answer.specs.Answer.{done, size, domain, number_of, value_of, pick, wrong, first_of, on_done, result_of}
+use Rattle.answer.specs.Laws.{right, never, listed, numbered, number_first, value_result, ok_only}
 use Rattle.octets.specs.Laws.{equal_same, equal_true}
+use Rattle.md4.specs.Md4.{md4}
 use Rattle.md4.specs.Laws.{md4_length}
 use Rattle.sha_1.specs.Sha1.{sha1}
 use Rattle.sha_1.specs.Laws.{sha1_length}
 use Rattle.des.specs.Laws.{encrypted_length}
 use Rattle.mschap.specs.Lengths.{longest_password, longest_name, challenge_length, response_length, hash_length, challenge_hash_length, string_length}
 use Rattle.mschap.specs.Name.{backslash, holds, following, name_rows, hashed_name}
-use Rattle.mschap.specs.Mschap.{password_hash, hash_hash, challenge_hash, z_password_hash, challenge_response, nt_response, hex_digits, encoded, signature, authenticator_string}
+use Rattle.mschap.specs.Mschap.{password_hash, hash_hash, challenge_hash, z_password_hash, challenge_response, nt_response, magic1, magic2, hex_digits, encoded, signature, authenticator_string}
 use Rattle.mschap.specs.Answers.{password_rows, challenge_rows, response_rows, string_rows, password_hash_answer, hash_hash_answer, challenge_hash_answer, challenge_response_answer, nt_response_answer, authenticator_string_answer, check_response_answer, check_authenticator_answer}
 
 -- the lengths of all results
@@ -155,6 +156,32 @@ pub authenticator_string_done : (password response peer authenticator name : Lis
 unfolding authenticator_string_answer
 authenticator_string_done password response peer authenticator name hr h =
     rw (right response_length response hr, h)
+
+-- the octets of a hash, and of the hash of that: where the call is refused, zeros
+pub password_hash_octets : (password : List ℕ)
+    → value_of (replicate hash_length 0) (password_hash_answer password)
+    ≡ on_done (first_of (password_rows password)) (password_hash password) (replicate hash_length 0)
+unfolding password_hash_answer
+password_hash_octets password = value_result (first_of (password_rows password)) (password_hash password) (replicate hash_length 0)
+
+pub hash_hash_octets : (hash : List ℕ)
+    → value_of (replicate hash_length 0) (hash_hash_answer hash)
+    ≡ on_done (first_of ((size, wrong hash_length hash) ∷ [])) (hash_hash hash) (replicate hash_length 0)
+unfolding hash_hash_answer
+hash_hash_octets hash = value_result (first_of ((size, wrong hash_length hash) ∷ [])) (hash_hash hash) (replicate hash_length 0)
+
+-- an NT-Response is the challenge hash under the password's hash
+pub response_made : {hash challenge o : List ℕ} (authenticator peer name password : List ℕ) → hash ≡ password_hash password
+    → challenge ≡ challenge_hash peer authenticator name → o ≡ challenge_response challenge hash
+    → o ≡ nt_response authenticator peer name password
+unfolding nt_response
+response_made authenticator peer name password eh ec eo = rw (eo, eh, ec)
+
+-- the string of a password's hash: what is signed is the hash of that
+pub signed : {hh digest last r : List ℕ} (hash response challenge m₁ m₂ : List ℕ) → hh ≡ md4 hash → digest ≡ sha1 (hh ++ response ++ m₁)
+    → last ≡ sha1 (digest ++ challenge ++ m₂) → r ≡ encoded last → m₁ ≡ magic1 → m₂ ≡ magic2 → r ≡ signature hash response challenge
+unfolding signature hash_hash
+signed hash response challenge m₁ m₂ eh ed el er e₁ e₂ = rw (er, el, ed, eh, e₁, e₂)
 
 -- the check says yes to the NT-Response that the same password gives ..
 pub check_response_yes : (authenticator peer name password : List ℕ) → first_of (response_rows authenticator peer name password) ≡ done

@@ -13,7 +13,7 @@ use Rattle.std.proofs.Math.Seq.{take-append_seam, drop-drop}
 use borrow.Author.Tests.{ltb-false, lt-ltb, eqb-true, not-false, le-ltb, eq-eqb}
 use Rattle.answer.specs.Answer.{done, shape, size, pick, on_done, result_of, wrong}
 use Rattle.answer.specs.Laws.{clear, ok_only}
-use Rattle.octets.specs.Octets.{Octets, written}
+use Rattle.octets.specs.Octets.{Octets, written, onward}
 use Rattle.mschap_packets.specs.declared.Kind.{Kind}
 use Rattle.mschap_packets.specs.declared.Kind.TheVariants as kinds
 use Rattle.mschap_packets.specs.declared.Challenge.{Challenge}
@@ -128,6 +128,19 @@ module _ (kind : Kind) (identifier : ℕ) (value name rest packet : List ℕ) (e
       let n = length_named in
       let split : drop (value_size kind) (drop 5 packet) ≡ name ++ rest = rw behind (drop_at value (name ++ rest) (value_size kind) hv) in
       rw (hr, ← drop-drop (value_size kind) 5 packet, split) (take_at name rest (length_field packet - least_length kind) (omega arith))
+
+-- the name of a packet that is read, and the place where it stands: from the end of the value to the length field
+pub name_done : {code start end : ℕ} (kind : Kind) (packet : List ℕ) (place : ℕ × ℕ) → code ≡ read_code kind packet → code ≡ done
+    → start ≡ least_length kind → end ≡ length_field packet
+    → (part start (end - start) packet ≡ name_of kind packet) × (onward start place ≡ onward (name_at kind packet) place)
+unfolding name_of name_at
+name_done kind packet place e h es ee = (rw (sym e ∙ h, es, ee), rw (sym e ∙ h, es))
+
+-- a name that is too long is 3, whatever room there is, and nothing is written
+pub long_name : (packet name out : List ℕ) → longest_name < length name
+    → (size ≡ write_code false packet name out) × (out ≡ write_out false packet name out)
+unfolding write_code write_out
+long_name packet name out h = rw (lt-ltb longest_name (length name) h) (refl, refl)
 
 -- what a call that answered 0 wrote: nothing was wrong, the name was not too long, and the packet stands in front
 written_done : (t : Bool) (packet name out : List ℕ) → write_code t packet name out ≡ done
