@@ -532,7 +532,9 @@ fn give(code: u8, res: &[u8], out: &mut [u8]) -> u8
     answer::DONE
 }
 
-// Writes what a call gave into the front of a lent buffer, where it was not refused and has room.
+// Writes what a call gave into the front of a lent buffer, where it was not refused and has room. A call of its own, so that its copy of the
+// octets doesn't lie on the stack under the call that gives them.
+#[inline(never)]
 #[tactic(auto, using(mppe_keys::proofs::Laws::unwrapped))]
 fn give_octets<const N: usize>(answered: Result<[u8; N], Refusal>, out: &mut [u8]) -> u8
     ensures { (result ≡ (given (number_of answered.entry)

@@ -4,19 +4,20 @@ use mathlib.Core.Bool.{Bool, true, false, not, ◌&&◌, ◌||◌, true≢false}
 use mathlib.Core.List.{List, [], ◌∷◌, ◌++◌, append_assoc, append-nil}
 use Prim.Native.Nat.{ℕ, zero, suc, ◌+◌, ◌-◌, ◌<◌, ◌≤◌}
 use native.Mathlib.Nat.{suc-ne-zero}
+use native.Mathlib.Numerals.{add-one}
 use native.Mathlib.Omega.{arith}
 use lib.Dec.{eqb, ltb}
-use lib.ListN.{length, take, drop, replicate, length-append, length-drop}
-use lib.Seq.{length-take-le, drop-drop, drop-length, take_all, take_at, drop_at}
-use borrow.Author.Tests.{ne_eqb, ltb-true, ltb-false, not-false}
+use lib.ListN.{length, take, drop, get_or, drop_of_length-le, replicate, length-append, length-drop}
+use lib.Seq.{length-take-le, drop-cons, drop-drop, drop-length, take_all, take_at, drop_at}
+use borrow.Author.Tests.{eq-eqb, ne_eqb, ltb-true, ltb-false, not-false}
 use borrow.Rule.Slice.PartMut.{put_mid}
 use Rattle.answer.specs.Answer.{done, shape, room, size, protocol, not_record, waiting, pick, outside, wrong, first_of, on_done, one_code}
-use Rattle.answer.specs.Laws.{both, clear, rows_pass, rows_stop, not_done, within, right, right_length, ok_only, err_only}
+use Rattle.answer.specs.Laws.{both, clear, never, rows_pass, rows_stop, not_done, within, right, right_length, ok_only, err_only}
 use Rattle.octets.specs.Octets.{pair_at, written}
 use Rattle.rc4.specs.declared.Rc4.{Rc4}
 use Rattle.rc4.specs.Cipher.{key_schedule, run, after, unkeyed}
-use Rattle.rc4.specs.Answers.{run_answer, run_out, apply_answer, apply_out, keyed_if, within_answer, within_out}
-use Rattle.rc4.proofs.Laws.{run_done, apply_done, within_fits}
+use Rattle.rc4.specs.Answers.{apply_answer, apply_out, keyed_if, within_answer, within_out}
+use Rattle.rc4.proofs.Laws.{apply_done, within_fits}
 use Rattle.mppe_keys.specs.declared.Strength.{Strength}
 use Rattle.mppe_keys.specs.declared.Mode.{Mode}
 use Rattle.mppe_keys.specs.declared.Mode.TheVariants.{Stateless, Stateful}
@@ -30,10 +31,23 @@ use Rattle.ccp.proofs.Laws.{reset_done, reset_shape}
 use Rattle.mppe.specs.declared.Link.{Link}
 use Rattle.mppe.specs.declared.Outcome.{Outcome}
 use Rattle.mppe.specs.declared.Judged.{Judged}
-use Rattle.mppe.specs.Link.{changes_over, with_box, kept_box, no_link, packet_on, shortest_plain, longest_plain, front, counts, new_count, well_formed, start_key_in, session_key_in, renewed, new_link, new_link_code, off_protocol, bit_a, header, header_in, data_in, count_of, Result, refusal}
-use Rattle.mppe.specs.Link.{plain_rows, next_count, next_changes, next_key, keys_afresh, next_box, seal_code, seal_result, away_for, changes_for, key_for, box_for, state_for, plain_for, waited, lacks, link_after, header_rows, data_rows, open_code, open_result, reset_code, reset_outcome}
+use Rattle.mppe.specs.Link.{zeros, changes_over, with_box, kept_box, no_link, packet_on, shortest_plain, longest_plain, front, counts, new_count, well_formed, start_key_in, session_key_in, renewed, new_link, new_link_code, off_protocol, bit_a, header, header_in, data_in, count_of, Result, refusal}
+use Rattle.mppe.specs.Link.{plain_rows, next_count, next_changes, next_key, keys_afresh, next_box, seal_code, seal_result, away_for, changes_for, key_for, box_for, state_for, plain_for, waited, lacks, link_after, front_rows, header_rows, data_rows, open_code, open_result, reset_code, reset_outcome}
 use Rattle.mppe.specs.Inner.{misshapen, judged_header, room_rows, header_code, cipher_in, carried_code, deciphered, deciphered_out, settled_on, waited_on, data_result}
 use Rattle.mppe.proofs.Laws.{key_back, well_box, fits_unmarked}
+
+-- one place more that is 0, one that is not, and the end of the places
+pub zeros_more : {b : Bool} (l : List ℕ) (i : ℕ) → b ≡ zeros (drop i l) → get_or l i 0 ≡ 0 → i < length l → b ≡ zeros (drop (i + 1) l)
+unfolding zeros
+zeros_more l i e none h = e ∙ rw (drop-cons l i 0 h, eq-eqb (get_or l i 0) 0 none, add-one i)
+
+pub zeros_not : {b : Bool} (l : List ℕ) (i : ℕ) → b ≡ zeros (drop i l) → (get_or l i 0 ≡ 0 → ⊥) → i < length l → false ≡ b
+unfolding zeros
+zeros_not l i e some h = sym (e ∙ rw (drop-cons l i 0 h, ne_eqb (get_or l i 0) 0 some))
+
+pub zeros_end : {b : Bool} (l : List ℕ) (i : ℕ) → b ≡ zeros (drop i l) → length l ≤ i → true ≡ b
+unfolding zeros
+zeros_end l i e h = sym (e ∙ rw (drop_of_length-le l {i = i} h))
 
 -- a cipher, keyed afresh or as it is held
 pub cipher_fresh : {r : Rc4} (fresh : Bool) (keyed held : Rc4) → fresh ≡ true → r ≡ keyed → r ≡ pick fresh keyed held
@@ -55,13 +69,10 @@ applied l fresh text out mode always short fits full en (er, ey) =
     let done-is = apply_done (session_key_in l) text out (omega (arith, long)) (omega (arith, long)) (omega arith) fits in
     (rw (er, en) (ap is_ok done-is.0), rw mode, ey ∙ rw (en, is) done-is.1)
 
-pub drawn_on : {cipher : Rc4} {r : Answered Rc4 Refusal} {ys : List ℕ} (l : Link) (fresh : Bool) (text out : List ℕ) → l.mode ≡ Stateful
-    → length text ≤ longest_plain → length text ≤ length out → cipher ≡ cipher_in l fresh
-    → (r ≡ run_answer cipher text out) × (ys ≡ run_out cipher text out)
-    → (r ≡ Ok (kept_box l (after (cipher_in l fresh) text))) × (ys ≡ written (run (cipher_in l fresh) text) out)
-drawn_on l fresh text out mode short fits ec (er, ey) =
-    let (state_is, run_is) = run_done (cipher_in l fresh) text out (omega arith) fits in
-    (er ∙ rw (ec, mode) state_is, ey ∙ rw ec run_is)
+pub drawn_on : {cipher r : Rc4} {ys : List ℕ} (l : Link) (fresh : Bool) (text out : List ℕ) → l.mode ≡ Stateful → cipher ≡ cipher_in l fresh
+    → (r ≡ after cipher text) × (ys ≡ written (run cipher text) out)
+    → (r ≡ kept_box l (after (cipher_in l fresh) text)) × (ys ≡ written (run (cipher_in l fresh) text) out)
+drawn_on l fresh text out mode ec (er, ey) = (er ∙ rw (ec, mode), ey ∙ rw ec)
 
 -- a stateless packet is keyed afresh
 pub fresh_stateless : {made count : ℕ} {next : Link} {fresh : Bool} (l : Link) (key : List ℕ) → made ≡ next_changes l → next ≡ renewed l key count
@@ -202,6 +213,25 @@ open_refusal : {r : Outcome} {code : ℕ} (result wait : Result) (code' : ℕ) (
     → r ≡ (refusal code l []).outcome → Gives r out (on_done code' result (pick (eqb code' waiting) wait (refusal code' l out)))
 open_refusal result wait code' l out e h h' er =
     rw (ne_eqb code' waiting (λ z. h' (e ∙ z))) (refused_is result code' l out e h er)
+
+-- a packet refused by its shape or for its record
+pub open_refused : {code : ℕ} {r : Outcome} (limit far : ℕ) (l : Link) (packet out : List ℕ) → code ≡ first_of (front_rows limit l packet) → (code ≡ done → ⊥)
+    → r ≡ (refusal code l []).outcome → Gives r out (open_result limit far l packet out)
+unfolding open_result open_code
+open_refused limit far l packet out e h er =
+    let h' : ℕ = header_in packet in
+    let rows : List (ℕ × Bool) = front_rows limit l packet in
+    let stop = rows_stop rows (header_rows far l h' ++ data_rows l h' (data_in packet) (length out)) λ z. h (e ∙ z) in
+    open_refusal _ (waited l h' out) (open_code limit far l packet (length out)) l out (e ∙ sym stop) h (λ z. never waiting rows refl refl (sym e ∙ z)) er
+
+-- a record and a packet that these rows let pass
+pub front_passed : {code : ℕ} (limit : ℕ) (l : Link) (packet : List ℕ) → code ≡ first_of (front_rows limit l packet) → code ≡ done
+    → (well_formed l ≡ true) × (front + shortest_plain ≤ length packet) × (length packet ≤ front + limit)
+front_passed limit l packet e z =
+    let rows : List (ℕ × Bool) = front_rows limit l packet in
+    let zero = sym e ∙ z in
+    let (low, high) = within (front + shortest_plain) (front + limit) (length packet) (clear shape rows refl zero).0 in
+    (not-false (well_formed l) (clear not_record rows refl zero).0, low, high)
 
 -- a packet of the right shape: its length, and its protocol number
 shape_bounds : (limit : ℕ) (packet : List ℕ) → misshapen limit packet ≡ false

@@ -38,7 +38,8 @@ pub const FARTHEST: u16 = 2048;
 // The count of a new link, so that the first packet carries 0.
 const LAST_COUNT: u16 = 4095;
 
-// A link record. Its calls take any, and say which are well formed. It holds keys, so no `==` and no Debug, as in all that holds one.
+// A link record. Its calls take any, and say which are well formed. It holds keys, so no `==` and no Debug, as in all that holds one. Most of its
+// methods take it by value: one that came by value is copied whole before it is lent.
 #[derive(Clone, Copy)]
 pub struct Link {
     pub strength: Strength,
@@ -189,9 +190,9 @@ impl Link {
 
     // What a well-formed record says of a header, with the length of the data and that of the lent buffer.
     #[tactic(auto, unfolding(crate::specs::Inner::header_code, crate::specs::Inner::judged_header))]
-    fn judge_header(&self, header: u16, length: usize, room: usize) -> Judged
-        requires { self.now.count < counts }
-        ensures { result ≡ judged_header farthest self.now header length room }
+    fn judge_header(self, header: u16, length: usize, room: usize) -> Judged
+        requires { self.count < counts }
+        ensures { result ≡ judged_header farthest self header length room }
     {
         let away = distance(self.count, header % COUNTS);
         Judged {
@@ -220,8 +221,8 @@ impl Link {
 
     // The number by the rows that the record, the header, its distance and two lengths decide.
     #[tactic(auto, unfolding(crate::specs::Inner::header_code))]
-    fn header_code(&self, header: u16, away: u16, length: usize, room: usize) -> u8
-        ensures { result ≡ header_code farthest self.now header away length room }
+    fn header_code(self, header: u16, away: u16, length: usize, room: usize) -> u8
+        ensures { result ≡ header_code farthest self header away length room }
     {
         if self.lacks_flag(header) {
             return answer::FLAGS;
@@ -245,8 +246,8 @@ impl Link {
     }
 
     // Whether a header lacks bit A, which stateless mode asks for.
-    fn lacks_flag(&self, header: u16) -> bool
-        ensures { result ≡ by_mode self.now.mode (lacks bit_a header) false }
+    fn lacks_flag(self, header: u16) -> bool
+        ensures { result ≡ by_mode self.mode (lacks bit_a header) false }
     {
         match self.mode {
             Mode::Stateless => lacks_a(header),
@@ -255,18 +256,18 @@ impl Link {
     }
 
     // Whether there is a box to open with: one keyed afresh, or the one that the last packet left.
-    fn opens(&self, header: u16, away: u16) -> bool
-        ensures { result ≡ opens_by (lacks bit_a header) away self.now.waiting }
+    fn opens(self, header: u16, away: u16) -> bool
+        ensures { result ≡ opens_by (lacks bit_a header) away self.waiting }
     {
         !lacks_a(header) || (away == 1 && !self.waiting)
     }
 
     // The number that seal answers.
     #[tactic(auto, unfolding(crate::specs::Link::seal_code))]
-    fn seal_code(&self, plain: &[u8], room: usize) -> u8
-        ensures { result ≡ seal_code longest_plain self.now plain.now room }
+    fn seal_code(self, plain: &[u8], room: usize) -> u8
+        ensures { result ≡ seal_code longest_plain self plain.now room }
     {
-        if !well_formed(*self) {
+        if !well_formed(self) {
             return answer::RECORD;
         }
         if beyond_plain(plain.len()) {
@@ -334,7 +335,7 @@ impl Link {
                 rc4::apply(&self.session[..key_length(self.strength)], text, out).unwrap();
                 self.state
             }
-            Mode::Stateful => self.cipher_of(fresh).run(text, out).unwrap(),
+            Mode::Stateful => run_on(self.cipher_of(fresh), text, out),
         }
     }
 
@@ -432,8 +433,8 @@ pub fn well_formed(link: Link) -> bool
 {
     let n = key_length(link.strength);
     link.count < COUNTS
-        && zeros_from(&link.start, n)
-        && zeros_from(&link.session, n)
+        && zeros_from(link.start, n)
+        && zeros_from(link.session, n)
         && mppe_keys::begins_reduced(link.strength, link.session)
         && box_fits(link.mode, link.state, link.waiting)
 }
@@ -450,11 +451,15 @@ fn box_fits(mode: Mode, state: Rc4, waiting: bool) -> bool
 }
 
 // Whether all places from one on are 0.
-fn zeros_from(places: &[u8; 16], from: usize) -> bool
-    requires { from ≤ 16 }
-    ensures { result ≡ zeros (drop from places.now) }
+fn zeros_from(places: [u8; 16], from: usize) -> bool
+    ensures { result ≡ zeros (drop from places) }
 {
-    places[from..].iter().all(|x| *x == 0)
+    for i in from..16 {
+        if places[i] != 0 {
+            return false;
+        }
+    }
+    true
 }
 
 // Whether a length is none of a plain packet's.
@@ -504,6 +509,15 @@ fn afresh(changes: u16, asked: bool) -> bool
     ensures { result ≡ (not (eqb changes 0) || asked) }
 {
     changes != 0 || asked
+}
+
+// A text run on a box. A call of its own: put into seal, its box of words would lie under the one that a key schedule makes.
+#[inline(never)]
+fn run_on(cipher: Rc4, text: &[u8], out: &mut [u8]) -> Rc4
+    requires { (length text.now ≤ longest_plain) × (length text.now ≤ length out.old) }
+    ensures { (result ≡ after cipher text.now) × (out.new ≡ written (run cipher text.now) out.old) }
+{
+    cipher.run(text, out).unwrap()
 }
 
 // Writes what stands before a sealed packet's data.

@@ -10,13 +10,16 @@ use Rattle.octets.specs.Octets.{written}
 use Rattle.octets.specs.Laws.{drop_zeros}
 use Rattle.sha_1.specs.Sha1.{sha1}
 use Rattle.sha_1.specs.Laws.{sha1_length}
+use Rattle.rc4.specs.declared.Rc4.{Rc4}
 use Rattle.rc4.specs.Cipher.{key_schedule}
-use Rattle.rc4.proofs.Laws.{run_length}
+use Rattle.rc4.specs.Answers.{keyed_answer}
+use Rattle.rc4.proofs.Laws.{run_length, keyed_done}
 use Rattle.mppe_keys.specs.declared.Strength.{Strength}
 use Rattle.mppe_keys.specs.declared.Strength.TheVariants.{Bits40, Bits56, Bits128}
 use Rattle.mppe_keys.specs.declared.Role.{Role}
 use Rattle.mppe_keys.specs.declared.Direction.{Direction}
 use Rattle.mppe_keys.specs.Keys.{key_length, magic1, master_key, phrase, key_text, start_key, new_key, head_of, reduced, initial_key, key_change, changes, placed}
+use Rattle.mppe_keys.specs.Answers.{placed_cipher}
 
 -- a key has 8 to 16 octets
 pub key_least : (s : Strength) → 8 ≤ key_length s
@@ -72,6 +75,14 @@ initial_key_length s start = reduced_length s (new_key s start start) (new_key_l
 pub placed_length : (key : List ℕ) → length key ≤ 16 → length (placed key) ≡ 16
 unfolding placed
 placed_length key h = simp (length-append, length-replicate) (omega arith)
+
+-- the first of the strength's octets of a session key in 16 places are never refused as a key, and are what RC4 is keyed with there
+pub places_keyed : {k : ℕ} {keyed : Result Rc4 Refusal} (s : Strength) (session : List ℕ) → k ≡ key_length s → keyed ≡ keyed_answer (take k session)
+    → length session ≡ 16 → keyed ≡ Ok (placed_cipher s session)
+unfolding placed_cipher
+places_keyed s session ek e h =
+    let long = length-take-le (key_length s) session (omega (arith, h, key_most s)) in
+    rw (e, ek, keyed_done (take (key_length s) session) (omega (arith, long, key_least s)) (omega (arith, long, key_most s)))
 
 -- a key change keeps the key's length ..
 pub key_change_length : (s : Strength) (start session : List ℕ) → length (key_change s start session) ≡ key_length s

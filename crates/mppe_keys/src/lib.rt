@@ -174,7 +174,9 @@ pub fn placed_key_changes(
     changed(strength, &start[..k], &session[..k], n)
 }
 
-// RC4 freshly keyed with a session key in 16 places, of which only the first of the strength's octets are read.
+// RC4 freshly keyed with a session key in 16 places, of which only the first of the strength's octets are read. A call of its own, as
+// `rc4::apply`.
+#[inline(never)]
 #[tactic(auto, unfolding(crate::specs::Answers::placed_cipher))]
 pub fn placed_cipher(strength: Strength, session: [u8; 16]) -> Rc4
     ensures { result ≡ placed_cipher strength session }

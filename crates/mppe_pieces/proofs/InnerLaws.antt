@@ -33,7 +33,7 @@ use Rattle.mppe.specs.Link.{shortest_plain, longest_plain, front, farthest, well
 use Rattle.mppe.proofs.Laws.{key_back}
 use Rattle.mppe_pieces.specs.declared.Walk.{Walk}
 use Rattle.mppe_pieces.specs.declared.Step.{Step}
-use Rattle.mppe_pieces.specs.Walk.{over, over_with, on_with, begin_code, walk_of, begin_step, goes_on, opened, early, judged_off, feed_rows, feed_code, moved_on, walk_after, buffer_after, closes, feed_result}
+use Rattle.mppe_pieces.specs.Walk.{over, over_with, on_with, begin_code, walk_of, begin_step, goes_on, opened, early, judged_off, feed_rows, feed_code, moved_on, walk_after, buffer_after, closes, feed_result, link_left, end_code, end_step}
 
 -- what a walk that goes on has: a well-formed record, a total within its limits, and no more fed
 pub goes_within : (limit far : ℕ) (w : Walk) → goes_on limit far w ≡ true
@@ -214,6 +214,25 @@ feed_written {r = r} {out₁ = out₁} w piece out c z e f eo (en, ey) el er =
     let put : written_at w.fed (run w.state piece) out₁ ≡ written_at (pick (early w.fed) 0 w.fed) (opened w piece) out =
     unfold opened in rw eo (put_on w.fed w.first (run w.state piece) out) in
     rw (← c, z) (step_is, mid ∙ put ∙ buffer-is)
+
+-- the ways out of an end of a walk that goes on: its record would be ill formed, the data are not all there, or it is good
+pub end_ill : {r : Step} {next : Link} (w : Walk) → goes_on longest_plain farthest w ≡ true → next ≡ link_left w → well_formed next ≡ false
+    → r ≡ on_with not_record w → r ≡ end_step longest_plain farthest w
+unfolding end_step end_code
+end_ill w g en ill er = rw (g, ← en, ill) er
+
+pub end_early : {r : Step} {next : Link} (w : Walk) → goes_on longest_plain farthest w ≡ true → next ≡ link_left w → well_formed next ≡ true → w.fed < w.total
+    → r ≡ on_with shape (over w.link) → r ≡ end_step longest_plain farthest w
+unfolding end_step end_code
+end_early w g en well few er = rw (g, ← en, well, lt-ltb w.fed w.total few) er
+
+pub end_good : {j : Judged} {next : Link} {ended : Walk} (w : Walk) → goes_on longest_plain farthest w ≡ true → next ≡ link_left w → well_formed next ≡ true
+    → w.total ≤ w.fed → j ≡ judged longest_plain farthest w.link w.header w.total → ended ≡ over next
+    → record { answer = done; changes = j.changes; walk = ended } ≡ end_step longest_plain farthest w
+unfolding end_step end_code judged
+end_good w g en well all ej ew =
+    let (whole, low, high, fed) = goes_within longest_plain farthest w g in
+    rw (g, ← en, well, le-ltb w.fed w.total all, ew, en, ej, whole)
 
 -- the session key and the box that a packet is opened with, and those of a record that waits
 pub key_made : {places : List ℕ} (l : Link) (h n : ℕ) → n ≡ changes_for l h → places ≡ placed_changes l.strength l.start l.session n → places ≡ placed (key_for l h)

@@ -31,40 +31,55 @@ const MARK_AT: usize = 36;
 const STATE_AT: usize = 37;
 
 // The octets of a link record.
-#[tactic(auto, unfolding(crate::specs::Record::record_octets))]
 pub fn record_octets(link: Link) -> [u8; 295]
     ensures { result ≡ record_octets link }
 {
-    let mut octets = [0; RECORD_LENGTH];
-    octets[FRONT_LENGTH..].copy_from_slice(&rest_octets(link));
-    octets[..FRONT_LENGTH].copy_from_slice(&front_octets(link));
+    let front = front_octets(link);
+    let rest = rest_octets(link);
+    let mut octets = [0u8; 295];
+    octets::copy(&front, &mut octets);
+    octets::copy_at(&rest, FRONT_LENGTH, &mut octets);
     octets
 }
 
 // Its first 35 octets.
-#[tactic(auto, using(crate::proofs::Laws::two_octets), unfolding(crate::specs::Record::front_octets))]
 pub fn front_octets(link: Link) -> [u8; 35]
     ensures { (result ≡ front_octets link) × (length result ≡ 35) }
 {
-    let mut octets = [0; FRONT_LENGTH];
-    octets[COUNT_AT..].copy_from_slice(&link.count.to_be_bytes());
-    octets[SESSION_AT..COUNT_AT].copy_from_slice(&link.session);
-    octets[START_AT..SESSION_AT].copy_from_slice(&link.start);
-    octets[0] = bits_of(link.strength);
+    let strength = link.strength;
+    let start = link.start;
+    let session = link.session;
+    let count = link.count;
+    let mut octets = [0u8; 35];
+    octets::copy_at(&[bits_of(strength)], 0, &mut octets);
+    octets::copy_at(&start, START_AT, &mut octets);
+    octets::copy_at(&session, SESSION_AT, &mut octets);
+    octets::copy_at(
+        &[(count / 256) as u8, (count % 256) as u8],
+        COUNT_AT,
+        &mut octets,
+    );
     octets
 }
 
 // The octets behind these.
-#[tactic(auto, unfolding(crate::specs::Record::rest_octets))]
 fn rest_octets(link: Link) -> [u8; 260]
     ensures { (result ≡ rest_octets link) × (length result ≡ 260) }
 {
-    let mut octets = [0; RECORD_LENGTH - FRONT_LENGTH];
-    octets[0] = yes_number(is_stateful(link.mode));
-    octets[1] = yes_number(link.waiting);
-    octets[2] = link.state.i;
-    octets[3] = link.state.j;
-    octets[4..].copy_from_slice(&link.state.cells);
+    let mode = link.mode;
+    let state = link.state;
+    let cells = state.cells;
+    let mut octets = [0u8; 260];
+    octets::copy(
+        &[
+            yes_number(is_stateful(mode)),
+            yes_number(link.waiting),
+            state.i,
+            state.j,
+        ],
+        &mut octets,
+    );
+    octets::copy_at(&cells, 4, &mut octets);
     octets
 }
 

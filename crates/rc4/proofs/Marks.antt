@@ -1,21 +1,17 @@
 -- Whether a box is a permutation, by a mark for each number that stands in it; whether a state is the unkeyed one.
 use mathlib.Core.Path.{◌≡◌, refl, sym, ◌∙◌}
-use mathlib.Core.Bool.{Bool, true, false, ◌&&◌, ◌||◌}
+use mathlib.Core.Bool.{Bool, true, false, ◌&&◌, ◌||◌, and-true}
 use mathlib.Core.List.{List, [], ◌∷◌, ◌++◌, perm_append_singleton}
-use Prim.Native.Nat.{ℕ, zero, suc, ◌+◌, ◌<◌}
+use Prim.Native.Nat.{ℕ, zero, suc, ◌+◌, ◌<◌, ◌≤◌}
 use native.Mathlib.Numerals.{add-one}
 use native.Mathlib.Omega.{arith}
+use lib.Bits.{bit_and}
 use lib.Dec.{eqb}
 use lib.ListN.{length, length-set, take, drop, set, get_or, get_or-replicate, replicate}
 use lib.Seq.{take_all, take-suc, drop-cons, drop-length, get_or-set_same, get_or-set_other}
-use borrow.Author.Tests.{eq-eqb, ne_eqb, eqb-true, eqb-false}
-use Rattle.std.proofs.lemmas.Bool.Decides.{same_from_decides}
-use Rattle.std.specs.List.{list_all}
-use Rattle.std.proofs.lemmas.List.Recursion.{same_from_clauses}
-use Rattle.std.specs.Cmp.Lexicographic.{pointwise}
-use Rattle.std.proofs.lemmas.List.{ext_get_or}
-use Rattle.std.proofs.lemmas.Slice.Eq.{bytes_eq-Decides}
-use Rattle.answer.specs.Laws.{both}
+use borrow.Author.Tests.{eq-eqb, eqb-true, eqb-false}
+use Rattle.std.specs.List.{fold}
+use Rattle.std.proofs.lemmas.List.Sums.{fold-append}
 use Rattle.rc4.specs.Cipher.{among, all_among, permutation, in_order}
 use Rattle.rc4.specs.Inner.{mark, Marked}
 use Rattle.rc4.proofs.Permutation.{among_same}
@@ -49,64 +45,52 @@ marks_more {x} cells marks i e low h (long, marks-are) = (simp length-set long, 
 pub marks_all : (cells marks : List ℕ) → length cells ≡ 256 → Marked (take 256 cells) marks → Marked cells marks
 marks_all cells marks long m = rw (take_all 256 cells (omega arith)) at m
 
--- the numbers below n are among the cells where each of them is
-all_at : (n : ℕ) (cells : List ℕ) → ((k : ℕ) → k < n → among k cells ≡ true) → all_among n cells ≡ true
-unfolding all_among
-all_at zero cells at = refl
-all_at (suc n) cells at = rw (all_at n cells (λ k h. at k (omega arith)), at n (omega arith))
-
-each_at : (n : ℕ) (cells : List ℕ) → all_among n cells ≡ true → (k : ℕ) → k < n → among k cells ≡ true
-unfolding all_among
-each_at zero cells all k h = absurd (omega arith)
-each_at (suc n) cells all k h =
-    let (fewer, last) = both (all_among n cells) (among n cells) all in
-    go (eqb k n) refl (each_at n cells fewer k) last
+-- the marks of the numbers below n, joined
+pub joined_more : {all x : ℕ} (n : ℕ) (cells marks : List ℕ) → x ≡ get_or marks n 0 → n < 256 → Marked cells marks → all ≡ mark (all_among n cells)
+    → bit_and all x ≡ mark (all_among (n + 1) cells)
+unfolding Marked all_among
+joined_more n cells marks ex h (long, marks-are) ea = rw (ea, ex, marks-are n h, add-one n) (both (all_among n cells) (among n cells))
   where
-    go : (t : Bool) → eqb k n ≡ t → (k < n → among k cells ≡ true) → among n cells ≡ true → among k cells ≡ true
-    go true e below last = rw (eqb-true k n e) last
-    go false e below last = let other = eqb-false k n e in below (omega arith)
+    both : (a b : Bool) → bit_and (mark a) (mark b) ≡ mark (a && b)
+    both true true = refl
+    both true false = refl
+    both false true = refl
+    both false false = refl
 
--- so a box is a permutation where every number is marked
-pub permutation_told : {r : Bool} (cells marks : List ℕ) → length cells ≡ 256 → Marked cells marks → r ≡ pointwise eqb marks (replicate 256 1) → r ≡ permutation cells
+joined : (n : ℕ) (cells marks : List ℕ) → n ≤ 256 → Marked cells marks → fold bit_and 1 (take n marks) ≡ mark (all_among n cells)
+unfolding all_among Marked
+joined zero cells marks h m = refl
+joined (suc n) cells marks h m =
+    let size : length marks ≡ 256 = m.0 in
+    rw (take-suc marks n 0 (omega arith), fold-append bit_and 1 (take n marks) (get_or marks n 0 ∷ [])) (rw (add-one n) at (joined_more n cells marks refl (omega arith) m (joined n cells marks (omega arith) m)))
+
+pub joined_tells : {all : ℕ} (a : Bool) → all ≡ mark a → eqb all 1 ≡ a
+joined_tells true e = rw e
+joined_tells false e = rw e
+
+-- so a box is a permutation where all 256 marks, joined, are 1
+pub permutation_told : {all : ℕ} (cells marks : List ℕ) → length cells ≡ 256 → Marked cells marks → all ≡ fold bit_and 1 marks → eqb all 1 ≡ permutation cells
 unfolding permutation Marked
-permutation_told {r} cells marks long (size, marks-are) e =
-    same_from_decides r (all_among 256 cells) (rw e (bytes_eq-Decides marks (replicate 256 1))) (told, found) ∙ rw (eq-eqb (length cells) 256 long)
+permutation_told cells marks long m e =
+    let size : length marks ≡ 256 = m.0 in
+    let whole : take 256 marks ≡ marks = take_all 256 marks (omega arith) in
+    joined_tells (all_among 256 cells) (e ∙ (rw whole at (joined 256 cells marks (omega arith) m))) ∙ rw (eq-eqb (length cells) 256 long)
+
+-- cells looked at in order: what is found so far, and what is left
+pub order_more : (found : Bool) (cells : List ℕ) (n : ℕ) → n < length cells → found && in_order n (drop n cells) ≡ in_order 0 cells
+    → (found && eqb (get_or cells n 0) n) && in_order (n + 1) (drop (n + 1) cells) ≡ in_order 0 cells
+unfolding in_order
+order_more found cells n h e =
+    let one : in_order n (drop n cells) ≡ eqb (get_or cells n 0) n && in_order (n + 1) (drop (n + 1) cells) = rw (drop-cons cells n 0 h, add-one n) in
+    by found (eqb (get_or cells n 0) n) (in_order (n + 1) (drop (n + 1) cells)) ∙ (rw one at e)
   where
-    told : all_among 256 cells ≡ true → marks ≡ replicate 256 1
-    told all = ext_get_or 0 marks (replicate 256 1) size (λ k h. let top : k < 256 = omega arith in marks-are k top ∙ rw (each_at 256 cells all k top) (sym (get_or-replicate 256 k 1 0 top)))
+    by : (a b c : Bool) → (a && b) && c ≡ a && (b && c)
+    by true b c = refl
+    by false b c = refl
 
-    found : marks ≡ replicate 256 1 → all_among 256 cells ≡ true
-    found same = all_at 256 cells (λ k h. set_mark (among k cells) (sym (marks-are k h) ∙ rw same (get_or-replicate 256 k 1 0 h)))
-      where
-        set_mark : (here : Bool) → mark here ≡ 1 → here ≡ true
-        set_mark true one = refl
-        set_mark false one = absurd (omega arith)
-
--- all marks are set where they equal as many that are
-pub ones_are : (marks : List ℕ) → list_all (λ x. eqb x 1) marks ≡ pointwise eqb marks (replicate (length marks) 1)
-ones_are marks =
-    same_from_clauses (list_all (λ x. eqb x 1)) (λ xs. pointwise eqb xs (replicate (length xs) 1)) (λ x r. eqb x 1 && r) refl (λ _ _. refl) (λ _ _. refl) marks
-
-pub marked_told : {r : Bool} (cells marks : List ℕ) → length cells ≡ 256 → Marked cells marks → r ≡ pointwise eqb marks (replicate (length marks) 1)
-    → r ≡ permutation cells
-unfolding Marked
-marked_told cells marks long are e = permutation_told cells marks long are (rw are.0 at e)
-
--- cells in order up to a place: one that is out of order there, one that is not, and the end
-one_more : (cells : List ℕ) (n : ℕ) → n < length cells → in_order n (drop n cells) ≡ eqb (get_or cells n 0) n && in_order (n + 1) (drop (n + 1) cells)
+pub order_all : (found : Bool) (cells : List ℕ) (n : ℕ) → length cells ≡ 256 → n ≡ 256 → found && in_order n (drop n cells) ≡ in_order 0 cells
+    → found ≡ in_order 0 cells
 unfolding in_order
-one_more cells n h = rw (drop-cons cells n 0 h, add-one n)
-
-pub order_other : (cells : List ℕ) (n : ℕ) → n < length cells → in_order n (drop n cells) ≡ in_order 0 cells → (get_or cells n 0 ≡ n → ⊥)
-    → false ≡ in_order 0 cells
-order_other cells n h e other = rw (one_more cells n h, ne_eqb (get_or cells n 0) n other) at e
-
-pub order_more : (cells : List ℕ) (n : ℕ) → n < length cells → in_order n (drop n cells) ≡ in_order 0 cells → get_or cells n 0 ≡ n
-    → in_order (n + 1) (drop (n + 1) cells) ≡ in_order 0 cells
-order_more cells n h e same = rw (one_more cells n h, eq-eqb (get_or cells n 0) n same) at e
-
-pub order_all : (cells : List ℕ) (n : ℕ) → length cells ≡ 256 → n ≡ 256 → in_order n (drop n cells) ≡ in_order 0 cells → true ≡ in_order 0 cells
-unfolding in_order
-order_all cells n long end e =
+order_all found cells n long end e =
     let none : drop 256 cells ≡ [] = rw (← long) (drop-length cells) in
-    rw (end, none) at e
+    sym (and-true found) ∙ (rw (end, none) at e)

@@ -53,7 +53,8 @@ impl Rc4 {
     pub fn draw(self) -> Drawn
         ensures { result ≡ draw_answer self }
     {
-        let mut words = widen(&self.cells);
+        let mut words = [0; 256];
+        widen(self.cells, &mut words);
         let i = usize::from(self.i);
         let x = words[(i + 1) % 256];
         let d = advance(&mut words, i, u32::from(self.j), x);
@@ -92,7 +93,8 @@ impl Rc4 {
             × (out.new ≡ within_out self fresh key.now lowest highest text.now out.old) }
     {
         check_numbered(fresh, key, text, out.len())?;
-        let mut words = keyed_words(self, fresh, key);
+        let mut words = [0; 256];
+        keyed_words(self, fresh, key, &mut words);
         let i = usize::from(start(fresh, self.i));
         let j = u32::from(start(fresh, self.j));
         let last = words_within(&mut words, i, j, lowest, highest, text, out)?;
@@ -107,7 +109,7 @@ impl Rc4 {
     pub fn is_permutation(self) -> bool
         ensures { result ≡ permutation self.cells }
     {
-        marked(&self.cells).iter().all(|mark| *mark == 1)
+        marked(self.cells).iter().fold(1, |all, mark| all & mark) == 1
     }
 
     // The state that a key schedule starts from: 0 to 255 in order, both indices 0.
@@ -126,11 +128,13 @@ impl Rc4 {
     pub fn is_unkeyed(self) -> bool
         ensures { result ≡ is_unkeyed self }
     {
-        self.i == 0 && self.j == 0 && in_order(&self.cells)
+        self.i == 0 && self.j == 0 && in_order(self.cells)
     }
 }
 
-// RC4 keyed with a key, applied to a text, into the front of a lent buffer.
+// RC4 keyed with a key, applied to a text, into the front of a lent buffer. A call of its own: put into its caller, the box of words would
+// stand on the stack under all that the caller calls beside it.
+#[inline(never)]
 pub fn apply(key: &[u8], text: &[u8], out: &mut [u8]) -> Result<(), Refusal>
     ensures { (result ≡ apply_answer key.now text.now out.old)
         × (out.new ≡ apply_out key.now text.now out.old) }
@@ -188,17 +192,17 @@ fn check_numbered(fresh: bool, key: &[u8], text: &[u8], room: usize) -> Result<(
     check_text(text, room)
 }
 
-// The box of a key where RC4 is keyed afresh, else that of a state.
-fn keyed_words(state: Rc4, fresh: bool, key: &[u8]) -> [u32; 256]
-    requires { fresh ≡ true → 1 ≤ length key.now }
-    ensures { (result ≡ (keyed_if state fresh key.now).cells) × OctetCells result }
+// The box of a key where RC4 is keyed afresh, else that of a state, over any box.
+fn keyed_words(state: Rc4, fresh: bool, key: &[u8], words: &mut [u32; 256])
+    requires { OctetCells words.old × (fresh ≡ true → 1 ≤ length key.now) }
+    ensures { (words.new ≡ (keyed_if state fresh key.now).cells) × OctetCells words.new }
 {
     if fresh {
-        let mut words = ascending();
-        key_schedule(key, &mut words);
-        return words;
+        *words = ascending();
+        key_schedule(key, words);
+        return;
     }
-    widen(&state.cells)
+    widen(state.cells, words);
 }
 
 // An index of that box.
@@ -256,7 +260,8 @@ fn run_text(state: Rc4, text: &[u8], out: &mut [u8]) -> Rc4
     ensures { (result ≡ after state text.now)
         × (out.new ≡ written (run state text.now) out.old) }
 {
-    let mut words = widen(&state.cells);
+    let mut words = [0; 256];
+    widen(state.cells, &mut words);
     let i = usize::from(state.i);
     let j = run_words(&mut words, i, u32::from(state.j), text, out);
     Rc4 {
@@ -429,14 +434,19 @@ fn swap_cells(cells: &mut [u32; 256], a: usize, x: u32, b: usize)
     cells[b] = x;
 }
 
-// A box of octets as one of words, which is faster: an octet that is stored and soon loaded again waits.
-fn widen(cells: &[u8; 256]) -> [u32; 256]
-    ensures { (result ≡ cells.now) × OctetCells result }
+// A box of octets as one of words, which is faster: an octet that is stored and soon loaded again waits. The words are lent: handed back from
+// `from_fn` they stood on the stack twice.
+fn widen(cells: [u8; 256], words: &mut [u32; 256])
+    requires { OctetCells words.old }
+    ensures { (words.new ≡ cells) × OctetCells words.new }
 {
-    array::from_fn(|n| u32::from(cells[n]))
+    for n in 0..256 {
+        words[n] = u32::from(cells[n]);
+    }
 }
 
-// A box of words as one of octets.
+// A box of words as one of octets. A call of its own, as `apply`: its code is long, and many callers have it.
+#[inline(never)]
 fn narrow(words: &[u32; 256]) -> [u8; 256]
     requires { OctetCells words.now }
     ensures { result ≡ words.now }
@@ -444,26 +454,25 @@ fn narrow(words: &[u32; 256]) -> [u8; 256]
     array::from_fn(|n| (words[n] % 256) as u8)
 }
 
-// Whether the cells are the numbers 0 to 255, in order. One by one: a box to compare with by `==` took 512 octets of stack, and twice the time.
-#[tactic(auto, using(crate::proofs::Marks::order_other, crate::proofs::Marks::order_more, crate::proofs::Marks::order_all))]
-fn in_order(cells: &[u8; 256]) -> bool
-    ensures { result ≡ in_order 0 cells.now }
+// Whether the cells are the numbers 0 to 255, in order. All are looked at, also behind one that differs: so sixteen are compared at once.
+#[tactic(auto, using(crate::proofs::Marks::order_more, crate::proofs::Marks::order_all))]
+fn in_order(cells: [u8; 256]) -> bool
+    ensures { result ≡ in_order 0 cells }
 {
-    for (n, x) in cells.iter().enumerate() {
-        if usize::from(*x) != n {
-            return false;
-        }
+    let mut same = true;
+    for n in 0..256 {
+        same &= cells[n] == n as u8;
     }
-    true
+    same
 }
 
 // A mark for each number that stands in one of the cells, an octet each: `==` takes twice as long over bools.
-fn marked(cells: &[u8; 256]) -> [u8; 256]
-    ensures { Marked cells.now result }
+fn marked(cells: [u8; 256]) -> [u8; 256]
+    ensures { Marked cells result }
 {
     let mut marks = [0; 256];
-    for x in cells {
-        marks[usize::from(*x)] = 1;
+    for n in 0..256 {
+        marks[usize::from(cells[n])] = 1;
     }
     marks
 }

@@ -3,5 +3,5 @@ use lib.ListN.{take}
 use Rattle.rc4.specs.Inner.{Marked}
 use Rattle.rc4.proofs.marked.Given as goal
 
-abbrev pub invariant-loop-x : goal.invariant-loop-x
-invariant-loop-x l = Marked (take l.x-index l.cells) l.marks
+abbrev pub invariant-loop-n : goal.invariant-loop-n
+invariant-loop-n l = Marked (take l.n l.cells) l.marks

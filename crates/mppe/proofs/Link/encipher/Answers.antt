@@ -1,8 +1,6 @@
-use mathlib.Core.Path.{◌≡◌, sym, ap, ◌∙◌}
+use mathlib.Core.Path.{◌≡◌}
 use lib.ListN.{length}
 use borrow.Author.Rules.{rules}
-use Rattle.std.specs.Prelude.{is_ok}
-use Rattle.answer.specs.Answer.{value_of}
 use Rattle.mppe.proofs.InnerLaws.{applied, drawn_on}
 use Rattle.mppe.proofs.Link.encipher.Goals as goal
 
@@ -19,13 +17,6 @@ returns-in-Stateless c =
     c.key_length.ensures c.apply.ensures in
     (kept, out)
 
-pub unwrap-requires-in-Stateful : goal.unwrap-requires-in-Stateful
-unwrap-requires-in-Stateful c =
-    ap is_ok (drawn_on c.args.self.now c.args.fresh c.args.text.now c.args.out.now c.in-Stateful.is c.requires.1 c.requires.2
-    c.cipher_of.ensures c.run.ensures).0
-
 pub returns-in-Stateful : goal.returns-in-Stateful
 returns-in-Stateful c =
-    let (drawn, out) = drawn_on c.args.self.now c.args.fresh c.args.text.now c.args.out.now c.in-Stateful.is c.requires.1 c.requires.2
-    c.cipher_of.ensures c.run.ensures in
-    (ap (value_of c.cipher_of.result) (sym c.unwrap-in-Stateful.ensures ∙ drawn), out)
+    drawn_on c.args.self.now c.args.fresh c.args.text.now c.args.out.now c.in-Stateful.is c.cipher_of.ensures c.run_on.ensures

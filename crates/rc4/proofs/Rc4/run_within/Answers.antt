@@ -7,8 +7,12 @@ use Rattle.std.proofs.lemmas.Result.{err_from_is_err_and}
 use Rattle.answer.specs.Answer.{done, protocol, pick}
 use Rattle.rc4.specs.Cipher.{run}
 use Rattle.rc4.specs.Answers.{keyed_if, numbered_rows, number_rows, number_code, within_code, within_answer, within_out}
+use Rattle.rc4.proofs.Boxes.{zero_cells}
 use Rattle.rc4.proofs.Texts.{behind_rows, words_state, words_made}
 use Rattle.rc4.proofs.Rc4.run_within.Goals as goal
+
+pub keyed_words-requires : goal.keyed_words-requires
+keyed_words-requires c = (zero_cells, search rules)
 
 pub returns-in_err-last : goal.returns-in_err-last
 unfolding within_answer within_out
@@ -19,7 +23,7 @@ returns-in_err-last c =
     let ej : c.from-j.result ≡ pick a.fresh 0 a.self.j = (search rules) ∙ c.start-2.ensures in
     let hi : c.from-i.result < 256 = search rules in
     let hj : c.from-j.result < 256 = search rules in
-    let same = words_state a.self a.fresh a.key.now c.keyed_words-words.ensures.0 ei ej hi hj in
+    let same = words_state a.self a.fresh a.key.now c.keyed_words.ensures.0 ei ej hi hj in
     let plain = run (keyed_if a.self a.fresh a.key.now) a.text.now in
     let off : number_code a.lowest a.highest plain ≡ protocol = rw same e.0 in
     let code : within_code a.self a.fresh a.key.now a.lowest a.highest a.text.now a.out.now ≡ protocol =
@@ -36,7 +40,7 @@ returns c =
     let ej : c.from-j.result ≡ pick a.fresh 0 a.self.j = (search rules) ∙ c.start-2.ensures in
     let hi : c.from-i.result < 256 = search rules in
     let hj : c.from-j.result < 256 = search rules in
-    let w = c.keyed_words-words.ensures.0 in
+    let w = c.keyed_words.ensures.0 in
     let same = words_state a.self a.fresh a.key.now w ei ej hi hj in
     let plain = run (keyed_if a.self a.fresh a.key.now) a.text.now in
     let on : number_code a.lowest a.highest plain ≡ done = rw same r.0 in
