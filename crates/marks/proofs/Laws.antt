@@ -10,7 +10,8 @@ use native.Mathlib.Omega.{arith}
 use Rattle.std.proofs.Math.Dec.{eqb-suc-zero}
 use Rattle.std.proofs.Math.ListN.{replicate, length-append}
 use Rattle.std.proofs.Math.Seq.{take-append_seam}
-use Rattle.answer.specs.Answer.{done, room, not_record, waiting, pick, first_of, on_done, result_of, value_of}
+use Rattle.answer.specs.Answer.{done, room, not_record, waiting, pick, first_of, on_done, result_of, number_of, value_of}
+use Rattle.answer.specs.Laws.{listed, number_first, value_result}
 use Rattle.octets.specs.Octets.{big_endian, from_big_endian, written, equal}
 use Rattle.octets.specs.Laws.{big_endian_length, big_endian_back, equal_same, equal_true}
 use Rattle.mppe_keys.specs.declared.Mode.{Mode}
@@ -22,9 +23,10 @@ use Rattle.mppe.proofs.Laws.{open_well}
 use Rattle.mppe_record.specs.Record.{front_octets}
 use Rattle.mppe_record.proofs.Laws.{bits_known, Sized, front_octets_length, stateless_in_back, open_sized}
 use Rattle.tape.specs.Tape.{contents}
+use Rattle.tape.proofs.Laws.{contents_listed, contents_number}
 use Rattle.marks.specs.declared.Mark.{Mark}
 use Rattle.marks.specs.declared.Checked.{Checked}
-use Rattle.marks.specs.Marks.{every, mark_length, mark_octets, marks_octets, mark_in, mark_read, opened, onward, reached, kept, marks_from, marks_of, walk_rows, write_code, write_answer, write_out, unchecked, checked}
+use Rattle.marks.specs.Marks.{every, mark_length, mark_octets, marks_octets, mark_in, mark_rows, no_mark, mark_read, agreeing, opened, onward, reached, kept, marks_from, marks_of, walk_rows, write_code, write_answer, write_out, unchecked, checked}
 
 -- a mark whose numbers fit their octets, with a well-formed stateless record
 abbrev pub Whole : Link → Type 0
@@ -71,10 +73,23 @@ whole_one m sized false = refl
 pub whole_append : (a b : List Mark) → WholeOctets a → WholeOctets b → WholeOctets (a ++ b)
 whole_append a b ha hb = rw (octets_append a b) (simp length-append (omega (arith, ha, hb)))
 
--- what a check says: a refused one no
+-- what a read of a mark answers, its number and its mark: those of the first row that applies, and no mark where one does
+pub mark_number : (octets : List ℕ) → number_of (mark_read octets) ≡ first_of (mark_rows octets)
+unfolding mark_read
+mark_number octets = number_first (mark_rows octets) (mark_in octets) refl
+
+pub mark_value : (octets : List ℕ) → value_of no_mark (mark_read octets) ≡ on_done (first_of (mark_rows octets)) (mark_in octets) no_mark
+unfolding mark_read
+mark_value octets = value_result (first_of (mark_rows octets)) (mark_in octets) no_mark
+
+-- what a check says: a refused one no, and that none agree
 yes_of : (n : ℕ) (x : Checked) → (value_of unchecked (result_of n x)).yes ≡ on_done n x.yes false
 yes_of zero x = refl
 yes_of (suc n) x = refl
+
+agreeing_of : (n : ℕ) (x : Checked) → (value_of unchecked (result_of n x)).agreeing ≡ on_done n x.agreeing 0
+agreeing_of zero x = refl
+agreeing_of (suc n) x = refl
 
 module _ (k limit far : ℕ) where
   told : (start : Link) (tape marks : List ℕ)
@@ -82,6 +97,48 @@ module _ (k limit far : ℕ) where
       ≡ on_done (first_of (walk_rows k limit far start tape)) (equal (marks_octets (marks_of k limit far start tape)) marks) false
   unfolding checked
   told start tape marks = yes_of (first_of (walk_rows k limit far start tape)) _
+
+  -- "then a faulty tape gives its own refusal": both answer the tape's number, whatever the list and the room
+  pub faulty_number : (start : Link) (tape marks out : List ℕ) → well_formed start ≡ true → start.mode ≡ Stateless
+      → ((contents k (front + limit) tape).answer ≡ done → ⊥)
+      → (number_of (checked k limit far start tape marks) ≡ (contents k (front + limit) tape).answer)
+      × (number_of (write_answer k limit far start tape out) ≡ (contents k (front + limit) tape).answer)
+  unfolding checked write_answer write_code
+  faulty_number start tape marks out well mode fault =
+      (rw (well, mode, faulty) (contents_number k (front + limit) tape _), rw (well, mode, faulty) (contents_number k (front + limit) tape _))
+    where
+      faulty : eqb (contents k (front + limit) tape).answer done ≡ false
+      faulty = ne_eqb (contents k (front + limit) tape).answer done fault
+
+  -- the numbers of a walk's rows are in the table, also that of the tape
+  walk_listed : (start : Link) (tape : List ℕ) → listed (walk_rows k limit far start tape) ≡ true
+  walk_listed start tape = rw (contents_listed k (front + limit) tape)
+
+  -- what a check answers: the number of the first row that applies, and a no and none where one does
+  pub check_number : (start : Link) (tape marks : List ℕ) → number_of (checked k limit far start tape marks) ≡ first_of (walk_rows k limit far start tape)
+  unfolding checked
+  check_number start tape marks = number_first (walk_rows k limit far start tape) _ (walk_listed start tape)
+
+  pub check_values : (start : Link) (tape marks : List ℕ)
+      → ((value_of unchecked (checked k limit far start tape marks)).yes
+      ≡ on_done (first_of (walk_rows k limit far start tape)) (equal (marks_octets (marks_of k limit far start tape)) marks) false)
+      × ((value_of unchecked (checked k limit far start tape marks)).agreeing
+      ≡ on_done (first_of (walk_rows k limit far start tape)) (agreeing (marks_of k limit far start tape) marks) 0)
+  unfolding checked
+  check_values start tape marks = (told start tape marks, agreeing_of (first_of (walk_rows k limit far start tape)) _)
+
+  -- what a write answers: the number of the first row that applies, and no octet written where one does
+  pub write_number : (start : Link) (tape out : List ℕ) → number_of (write_answer k limit far start tape out) ≡ write_code k limit far start tape out
+  unfolding write_answer write_code
+  write_number start tape out =
+      number_first (walk_rows k limit far start tape ++ ((room, ltb (length out) (length (marks_octets (marks_of k limit far start tape)))) ∷ []))
+      (length (marks_octets (marks_of k limit far start tape))) (rw (contents_listed k (front + limit) tape))
+
+  pub write_value : (start : Link) (tape out : List ℕ)
+      → value_of 0 (write_answer k limit far start tape out)
+      ≡ on_done (write_code k limit far start tape out) (length (marks_octets (marks_of k limit far start tape))) 0
+  unfolding write_answer
+  write_value start tape out = value_result (write_code k limit far start tape out) (length (marks_octets (marks_of k limit far start tape))) 0
 
   -- a check says yes "exactly when they are the marks that a walk from the start gives"
   pub check_yes : (start : Link) (tape marks : List ℕ)

@@ -9,10 +9,10 @@ use native.Mathlib.Omega.{arith}
 use Rattle.std.proofs.Math.ListN.{length, drop, get_or, length-append, length-drop}
 use Rattle.std.proofs.Math.Seq.{length-take-le, take-append-add, drop-length, take-append_seam, drop-append_seam, get_or-drop}
 use borrow.Author.Tests.{lt-ltb, le-ltb, ltb-true, ltb-false, eq-eqb, ne_eqb, eqb-true, not-false}
-use Rattle.answer.specs.Answer.{done, shape, size, pick, first_of, on_done, number_of, result_of}
-use Rattle.answer.specs.Laws.{clear, within, outside_none, number_first}
+use Rattle.answer.specs.Answer.{done, shape, room, size, pick, outside, first_of, on_done, number_of, value_of, result_of}
+use Rattle.answer.specs.Laws.{clear, within, outside_none, number_result, first_listed, number_first, value_result}
 use Rattle.octets.specs.Octets.{Octets}
-use Rattle.tape.specs.Tape.{first_octet, shortest_packet, longest_packet, most_groups, groups, with_low, length_in, Read, reading, Contents, ended, behind, holding, on_packet, record_size, record_of, records_of, tape_of, Fits, Writable, write_out, place_rows, length_at, packet_at, record_rows, record_read, read_at, read_on, read_from, contents, ReadsBack, WritesNext}
+use Rattle.tape.specs.Tape.{first_octet, shortest_packet, longest_packet, most_groups, groups, with_low, length_in, Read, reading, Contents, ended, behind, holding, on_packet, record_size, record_of, records_of, tape_of, Fits, Writable, begin_code, begin_answer, write_code, write_answer, write_out, place_rows, length_at, packet_at, record_rows, record_read, read_at, read_on, read_from, contents, ReadsBack, WritesNext}
 
 -- groups in front of others
 pub low_some : (low high : ℕ) → 0 < high → with_low low high ≡ low + 128 * high
@@ -409,3 +409,49 @@ read_number k most tape o = by (first_of (place_rows tape o)) (eqb o (length tap
     by zero false zero hc hd = refl
     by zero false (suc d) hc hd = hd
     by (suc c) t d hc hd = hc
+
+pub read_listed : (k most : ℕ) (tape : List ℕ) (o : ℕ) → ltb (read_at k most tape o).answer 12 ≡ true
+unfolding read_at record_read
+read_listed k most tape o = by (first_of (place_rows tape o)) (eqb o (length tape)) (first_of (record_rows k most tape o))
+    (first_listed (place_rows tape o) refl) (first_listed (record_rows k most tape o) refl)
+  where
+    by : (c : ℕ) (t : Bool) (d : ℕ) → ltb c 12 ≡ true → ltb d 12 ≡ true
+        → ltb (on_done c (pick t (reading done [] o) (on_done d (reading done (packet_at k tape o) (o + record_size k (length_at k tape o))) (reading d [] o))) (reading c [] 0)).answer 12 ≡ true
+    by zero true d hc hd = refl
+    by zero false zero hc hd = refl
+    by zero false (suc d) hc hd = hd
+    by (suc c) t d hc hd = hc
+
+-- and so is that with which reading on ends, and that of a tape
+pub on_listed : (k most n : ℕ) (tape : List ℕ) (o : ℕ) → ltb (read_on k most n tape o).answer 12 ≡ true
+unfolding read_on
+on_listed k most zero tape o = read_listed k most tape o
+on_listed k most (suc n) tape o = by (read_at k most tape o).packet (read_on k most n tape (read_at k most tape o).offset) (on_listed k most n tape (read_at k most tape o).offset)
+  where
+    by : (p : List ℕ) (c : Contents) → ltb c.answer 12 ≡ true → ltb (on_packet p (behind p c) (ended (read_at k most tape o))).answer 12 ≡ true
+    by [] c h = read_listed k most tape o
+    by (x ∷ xs) c h = h
+
+pub contents_listed : (k most : ℕ) (tape : List ℕ) → ltb (contents k most tape).answer 12 ≡ true
+unfolding contents
+contents_listed k most tape = on_listed k most (length tape) tape 1
+
+pub contents_number : {A : Type 0} (k most : ℕ) (tape : List ℕ) (x : A) → number_of (result_of (contents k most tape).answer x) ≡ (contents k most tape).answer
+contents_number k most tape x = number_result (contents k most tape).answer x (contents_listed k most tape)
+
+-- the number of a beginning and of a write: that of the first row that applies; a refused write has written no octet
+pub begin_number : (out : List ℕ) → number_of (begin_answer out) ≡ begin_code out
+unfolding begin_answer begin_code
+begin_number out = number_first ((room, ltb (length out) 1) ∷ []) tt refl
+
+pub write_number : (k most : ℕ) (packet out : List ℕ) → number_of (write_answer k most packet out) ≡ write_code k most packet out
+unfolding write_answer write_code
+write_number k most packet out =
+    number_first
+    ((shape, outside shortest_packet most (length packet)) ∷ (room, ltb (length out) (record_size k (length packet))) ∷ [])
+    (record_size k (length packet)) refl
+
+pub write_value : (k most : ℕ) (packet out : List ℕ)
+    → value_of 0 (write_answer k most packet out) ≡ on_done (write_code k most packet out) (record_size k (length packet)) 0
+unfolding write_answer
+write_value k most packet out = value_result (write_code k most packet out) (record_size k (length packet)) 0
