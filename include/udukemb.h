@@ -31,27 +31,27 @@
  *
  * Stack: the most octets that a call takes below its caller's frame, with the arguments passed there and without what
  * memcpy and memset take:
- *       udukemb_authenticator_string    1400
+ *       udukemb_authenticator_string    1300
  *       udukemb_base_key                 300
- *       udukemb_begin                   5500
+ *       udukemb_begin                   2800
  *       udukemb_binding_key              900
  *       udukemb_check_authenticator     1300
  *       udukemb_check_response          1200
- *       udukemb_end                     3100
- *       udukemb_feed                    4900
- *       udukemb_marks_check             8600
+ *       udukemb_end                     2900
+ *       udukemb_feed                    4300
+ *       udukemb_marks_check             7700
  *       udukemb_marks_read              1300
- *       udukemb_marks_write             9000
+ *       udukemb_marks_write             8200
  *       udukemb_new_link                1000
- *       udukemb_nt_response             1200
- *       udukemb_open                    6900
+ *       udukemb_nt_response             1100
+ *       udukemb_open                    6100
  *       udukemb_option_reply             300
- *       udukemb_reset                   1700
+ *       udukemb_reset                   1400
  *       udukemb_seal                    5100
  *       udukemb_start_key                800
  *       udukemb_tape_begin               200
  *       udukemb_tape_read                200
- *       udukemb_tape_replay             7300
+ *       udukemb_tape_replay             6500
  *       udukemb_tape_write               300
  *       udukemb_write_reset              200
  */
