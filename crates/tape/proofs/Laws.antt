@@ -12,7 +12,8 @@ use borrow.Author.Tests.{lt-ltb, le-ltb, ltb-true, ltb-false, eq-eqb, ne_eqb, eq
 use Rattle.answer.specs.Answer.{done, shape, room, size, pick, outside, first_of, on_done, number_of, value_of, result_of}
 use Rattle.answer.specs.Laws.{clear, within, outside_none, number_result, first_listed, number_first, value_result}
 use Rattle.octets.specs.Octets.{Octets}
-use Rattle.tape.specs.Tape.{first_octet, shortest_packet, longest_packet, most_groups, groups, with_low, length_in, Read, reading, Contents, ended, behind, holding, on_packet, record_size, record_of, records_of, tape_of, Fits, Writable, begin_code, begin_answer, write_code, write_answer, write_out, place_rows, length_at, packet_at, record_rows, record_read, read_at, read_on, read_from, contents, ReadsBack, WritesNext}
+use Rattle.tape.specs.Tape.{first_octet, shortest_packet, longest_packet, most_groups, groups, with_low, length_in, Read, reading, Contents, ended, behind, holding, on_packet, record_size, record_of, records_of, tape_of, Fits, Writable}
+use Rattle.tape.specs.Tape.{begin_code, begin_answer, write_code, write_answer, write_out, place_rows, length_at, packet_at, record_rows, record_read, read_at, read_on, read_from, contents, ReadsBack, WritesNext}
 
 -- groups in front of others
 pub low_some : (low high : ℕ) → 0 < high → with_low low high ≡ low + 128 * high
