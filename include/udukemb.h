@@ -36,17 +36,17 @@
  *       udukemb_begin                   2800
  *       udukemb_binding_key              900
  *       udukemb_check_authenticator     1300
- *       udukemb_check_response          1200
+ *       udukemb_check_response          1100
  *       udukemb_end                     2900
- *       udukemb_feed                    4300
- *       udukemb_marks_check             7700
+ *       udukemb_feed                    4100
+ *       udukemb_marks_check             7500
  *       udukemb_marks_read              1300
  *       udukemb_marks_write             8200
- *       udukemb_new_link                1000
+ *       udukemb_new_link                 900
  *       udukemb_nt_response             1100
  *       udukemb_open                    6100
  *       udukemb_option_reply             300
- *       udukemb_reset                   1400
+ *       udukemb_reset                   1300
  *       udukemb_seal                    5100
  *       udukemb_start_key                800
  *       udukemb_tape_begin               200

@@ -34,10 +34,11 @@ pub fn closed<S: BlockState>(s: S, blocks: u32, text: &[u8]) -> Result<S, Refusa
     if LONGEST_TEXT < text.len() {
         return Err(Refusal::Size);
     }
+    let whole = absorbed(s, text);
     let bits = 8 * (64 * u64::from(blocks) + text.len() as u64);
     let mut last = [0u8; 128];
     let n = padded_tail(S::order(), text, bits, &mut last);
-    Ok(absorbed(absorbed(s, text), &last[..n]))
+    Ok(absorbed(whole, &last[..n]))
 }
 
 // The state after all whole blocks of m.
@@ -61,10 +62,10 @@ pub fn padded_tail(order: Order, m: &[u8], bits: u64, out: &mut [u8; 128]) -> us
     let from = m.len() - rest;
     let len = rest + 9 + (119 - rest) % 64;
     let at = len - 8;
+    let field = octets::long_octets(order, bits);
     *out = [0u8; 128];
     octets::copy(&m[from..], out);
     out[rest] = 0x80;
-    let field = octets::long_octets(order, bits);
     octets::copy_at(&field, at, out);
     len
 }

@@ -57,6 +57,18 @@ fn run_case<R: Read, W: Write>(reader: &mut R, writer: &mut W) -> io::Result<boo
     if read_full(reader, &mut head)? < HEAD {
         return Ok(false);
     }
+    run_parts(reader, writer, head)?;
+    writer.flush()?;
+    Ok(true)
+}
+
+// Reads the parts of a case behind its head, and runs it. Apart from the head's reading: behind it, in one function, the buffers are filled
+// with zeros twice, and once even where no case comes.
+fn run_parts<R: Read, W: Write>(
+    reader: &mut R,
+    writer: &mut W,
+    head: [u8; HEAD],
+) -> io::Result<()> {
     let mut a = [0u8; ROOM];
     let mut b = [0u8; ROOM];
     let mut c = [0u8; ROOM];
@@ -74,9 +86,7 @@ fn run_case<R: Read, W: Write>(reader: &mut R, writer: &mut W) -> io::Result<boo
         b: &b[..in_b],
         c: &c[..in_c],
     };
-    run_call(writer, case, &mut lent[..in_lent])?;
-    writer.flush()?;
-    Ok(true)
+    run_call(writer, case, &mut lent[..in_lent])
 }
 
 // Makes the call of a case. A number that is no call's gets no answer.

@@ -158,12 +158,6 @@ reply_refused {number = number} refusal out e er = rw (← e) (by number er)
     by zero e = rw (le-ltb (length out) 0 (omega arith)) (e, refl)
     by (suc n) e = (e, refl)
 
--- a record or a walk written over the octets of another
-pub put_over : {octets out' : List ℕ} (made out : List ℕ) → octets ≡ made → out' ≡ written (take (length out) octets) out → length octets ≡ length out
-    → out' ≡ made
-put_over {octets} made out e w h =
-    w ∙ rw (take_all (length out) octets (omega arith), drop_of_length-le out {i = length octets} (omega arith), append-nil) e
-
 -- octets that hold a record are 295
 pub held_length : {read : Answered Link Refusal} {l : Link} (octets : List ℕ) → read ≡ record_read octets → read ≡ Ok l → length octets ≡ record_length
 held_length octets e h = read_length octets (sym e ∙ h)

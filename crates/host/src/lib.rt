@@ -678,7 +678,7 @@ fn put_record(link: Link, link_record: &mut [u8])
     ensures { link_record.new ≡ record_octets link }
 {
     let octets = record_octets(link);
-    octets::copy(&octets, link_record);
+    link_record.copy_from_slice(&octets);
 }
 
 // Writes a walk over the octets of another.
@@ -687,7 +687,7 @@ fn put_walk(held: Walk, walk: &mut [u8])
     ensures { walk.new ≡ walk_octets held }
 {
     let octets = walk_octets(held);
-    octets::copy(&octets, walk);
+    walk.copy_from_slice(&octets);
 }
 
 // Closes a walk whose record cannot be read: zeros behind the record.

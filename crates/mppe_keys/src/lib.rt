@@ -95,7 +95,7 @@ pub fn start_key(
     ensures { result ≡ start_key_answer strength role direction master.now }
 {
     of_length(KEY_PLACES, master)?;
-    let digest = key_digest(master, phrase(role, direction));
+    let digest = key_digest::<180>(master, phrase(role, direction));
     Ok(front(key_octets(strength), digest))
 }
 
@@ -107,7 +107,7 @@ pub fn new_key(strength: Strength, start: &[u8], session: &[u8]) -> Result<[u8; 
     let k = key_octets(strength);
     of_length(k, start)?;
     of_length(k, session)?;
-    Ok(front(k, key_digest(start, session)))
+    Ok(front(k, key_digest::<112>(start, session)))
 }
 
 // The session key that a start key gives before the first key change.
@@ -244,12 +244,12 @@ fn from_client(role: Role, direction: Direction) -> bool
     (role == Role::Client) == (direction == Direction::Send)
 }
 
-// The digest that a key of two parts is the front of.
-fn key_digest(first: &[u8], second: &[u8]) -> [u8; 20]
-    requires { (length first.now ≤ 16) × (length second.now ≤ 84) }
+// The digest that a key of two parts is the front of, made in N octets: 112 hold what is hashed of two keys, 180 of a key and a phrase.
+fn key_digest<const N: usize>(first: &[u8], second: &[u8]) -> [u8; 20]
+    requires { (length first.now + length second.now + 80 ≤ N) × (N ≤ 180) }
     ensures { result ≡ digest_of (key_text first.now second.now) }
 {
-    let mut text = [0u8; 180];
+    let mut text = [0u8; N];
     put_key_text(first, second, &mut text);
     digest_of(&text[..first.len() + second.len() + 80])
 }

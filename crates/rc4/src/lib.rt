@@ -19,12 +19,13 @@ pub const LONGEST_KEY: usize = 256;
 // The octets of a number in front of a text.
 const NUMBER: usize = 2;
 
-// The box and both indices. Any octets are a state. A secret, so no `==`, whose time tells where two differ, and no Debug.
+// Both indices and the box. Any octets are a state. A secret, so no `==`, whose time tells where two differ, and no Debug. The box stands last:
+// in a `Result`, what stands first lies where a refusal lies too, and a box there is copied in two parts and kept on the stack once more.
 #[derive(Clone, Copy)]
 pub struct Rc4 {
-    pub cells: [u8; 256],
     pub i: u8,
     pub j: u8,
+    pub cells: [u8; 256],
 }
 
 // What a draw gives.
@@ -192,7 +193,9 @@ fn check_numbered(fresh: bool, key: &[u8], text: &[u8], room: usize) -> Result<(
     check_text(text, room)
 }
 
-// The box of a key where RC4 is keyed afresh, else that of a state, over any box.
+// The box of a key where RC4 is keyed afresh, else that of a state, over any box. A call of its own, so that what widening keeps on the stack
+// doesn't lie there under the run.
+#[inline(never)]
 fn keyed_words(state: Rc4, fresh: bool, key: &[u8], words: &mut [u32; 256])
     requires { OctetCells words.old × (fresh ≡ true → 1 ≤ length key.now) }
     ensures { (words.new ≡ (keyed_if state fresh key.now).cells) × OctetCells words.new }

@@ -12,5 +12,5 @@ pub returns : goal.returns
 unfolding closed_answer
 returns g c =
     let a = c.args in
-    let state = closed_by _ _ _ (64 * a.blocks) a.text.now c.absorbed.ensures c.padded_tail-n.ensures c.absorbed-2.ensures (omega arith) (omega arith) in
+    let state = closed_by _ _ _ (64 * a.blocks) a.text.now c.absorbed-whole.ensures c.padded_tail-n.ensures c.absorbed.ensures (omega arith) (omega arith) in
     rw (le-ltb longest_text (length a.text.now) c.if-text-gt-LONGEST_TEXT.false, state, c.order.ensures)
