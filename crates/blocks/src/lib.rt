@@ -28,6 +28,7 @@ pub trait BlockState: Copy {
 }
 
 // The state after a text of 0 to 65,535 octets, padded, that goes on behind `blocks` blocks, which gave s; a longer text is refused.
+// Its whole blocks come before the padding: so `mschap::nt_response` takes 16 octets of stack less.
 pub fn closed<S: BlockState>(s: S, blocks: u32, text: &[u8]) -> Result<S, Refusal>
     ensures { result ≡ closed_answer S.compressed S.order s (64 * blocks) text.now }
 {
@@ -54,7 +55,8 @@ fn absorbed<S: BlockState>(s: S, m: &[u8]) -> S
 }
 
 // Writes a message's last blocks, one or two, into a buffer: the octets behind its last whole block, and the padding. Tells how many octets
-// they are: a count beside the buffer, as docs/PROMISES.md names this call.
+// they are: a count beside the buffer, as docs/PROMISES.md names this call. The length's octets are made first: so `sha_1::sha1` takes 16
+// octets of stack less.
 pub fn padded_tail(order: Order, m: &[u8], bits: u64, out: &mut [u8; 128]) -> usize
     ensures { (result ≡ length (ending order m.now bits)) × (out.new ≡ tail_of order m.now bits) }
 {

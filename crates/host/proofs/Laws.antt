@@ -52,7 +52,8 @@ use Rattle.host.specs.declared.Next.{Next}
 use Rattle.host.specs.declared.Replayed.{Replayed}
 use Rattle.host.specs.declared.Mark.{Mark}
 use Rattle.host.specs.declared.MarksChecked.{MarksChecked}
-use Rattle.host.specs.Host.{Given, Linked, given, role_of, direction_of, start_key_from, master_key_from, credential_rows, start_key_given, choice_octets, option_given, option_reply, choice_reply, no_reply, reply_of, reply_octets, new_link_given, unchanged, linked, opened_by, walked, closed_octets, begin_walked, written_of, next_in, step_with, replay_linked, replay_offset, replayed_by, marks_written, marks_out, marks_checked, checked_of, mark_given, mark_told}
+use Rattle.host.specs.Host.{Given, Linked, given, role_of, direction_of, start_key_from, master_key_from, credential_rows, start_key_given}
+use Rattle.host.specs.Host.{choice_octets, option_given, option_reply, choice_reply, no_reply, reply_of, reply_octets, new_link_given, unchanged, linked, opened_by, walked, closed_octets, begin_walked, written_of, next_in, step_with, replay_linked, replay_offset, replayed_by, marks_written, marks_out, marks_checked, checked_of, mark_given, mark_told}
 
 -- a call's number and the lent buffer after it are those of a definition ..
 abbrev pub Gave : ℕ → List ℕ → Given → Type 0
